@@ -1,0 +1,4 @@
+pub mod Cond
+pub mod Reading
+pub mod Joining
+pub mod Worked

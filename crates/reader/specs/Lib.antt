@@ -1,0 +1,4 @@
+pub mod Sheet
+pub mod Reading
+pub mod Writing
+pub mod Decoding
