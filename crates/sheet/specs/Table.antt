@@ -5,7 +5,7 @@ use Prim.Native.Nat.{ℕ}
 use Rattle.answer.specs.Lowest.{anyBelow, firstBelow}
 use Rattle.answer.specs.Number.{numberOf, placeOf}
 use Rattle.bits.specs.Field.{fieldAt, numAt, bitAt}
-use Rattle.bits.specs.Read.{Ans, ok, no, upto}
+use Rattle.bits.specs.Read.{upto}
 use Rattle.bits.specs.Word.{getBit, bitsOf}
 use Rattle.condition.specs.Cond.{isOn, isOff, isGated}
 use Rattle.condition.specs.Reading.{condAt, operandsAt, inputAt}
@@ -18,7 +18,7 @@ sheetM b2 b3 b8 = 0x08 ∷ 0x00 ∷ b2 ∷ b3 ∷ 0x00 ∷ 0x00 ∷ 0x00 ∷ 0x0
 
 -- the sheet s is answered with this number at this place
 abbrev pub Is : List ℕ → ℕ → ℕ → Type 0
-Is s no place = (numberOf (checkSheet s) ≡ no) × (placeOf (checkSheet s) ≡ place)
+Is s n place = (numberOf (checkSheet s) ≡ n) × (placeOf (checkSheet s) ≡ place)
 
 pub record Table : Type 0 where
   pub p1 : Is [] 1 0
