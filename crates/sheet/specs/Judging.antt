@@ -4,6 +4,7 @@ use mathlib.Core.Bool.{Bool, true, false, not, _&&_}
 use mathlib.Core.List.{List}
 use lib.ListN.{getD}
 use lib.Dec.{ltb, eqb}
+use Rattle.answer.specs.declared.Refusal.{Refusal}
 use Rattle.answer.specs.declared.Refusal.the-variants.{Loop, Pair, Rank, NoHome, HomeForm, Gate, Activity}
 use Rattle.answer.specs.declared.Checked.{Checked}
 use Rattle.answer.specs.declared.Checked.the-variants.{Accepted, Refused}
@@ -69,3 +70,15 @@ judgeRead (no why) = Refused why
 
 unfoldable pub checkSheet : List ℕ → Checked
 checkSheet s = judgeRead (readSheet s)
+
+-- What is done with a sheet: `go` with the sheet that the bytes are, where it is accepted; else `refuse` with the refusal.
+abbrev pub judgedOr : {B : Type 0} → Checked → (Refusal → B) → B → B
+judgedOr Accepted refuse b = b
+judgedOr (Refused why) refuse b = refuse why
+
+abbrev pub readOr : {B : Type 0} → Ans Sheet → (Refusal → B) → (Sheet → B) → B
+readOr (ok a end) refuse go = judgedOr (judge a) refuse (go a)
+readOr (no why) refuse go = refuse why
+
+unfoldable pub withSheet : {B : Type 0} → List ℕ → (Refusal → B) → (Sheet → B) → B
+withSheet s refuse go = readOr (readSheet s) refuse go
