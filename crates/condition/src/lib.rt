@@ -12,7 +12,7 @@ ghost use Rattle.condition.specs.Joining.{negFacts, joinFacts};
 pub struct Facts {
     pub nodes: u32,
     pub value: bool,
-    pub form: u32,
+    pub form: u8,
     pub words: u32,
 }
 

@@ -1,19 +1,79 @@
--- How the code holds a sheet that it has read: not needed to read the promises.
+-- How the code holds what it has read: not needed to read the promises.
 use Prim.Native.Nat.{ℕ, _<_}
 use mathlib.Core.Path.{_≡_}
 use mathlib.Core.List.{List, []}
+use mathlib.Core.Bool.{Bool}
 use lib.ListN.{length, getD}
+use lib.Dec.{ltb}
 use Rattle.answer.specs.declared.Refusal.{Refusal}
 use Rattle.answer.specs.declared.Refusal.the-variants as refuse
 use Rattle.bits.specs.Word.{wordOf}
-use Rattle.bits.specs.Read.{Ans, ok, no}
+use Rattle.bits.specs.Read.{Ans, ok, no, bind, guard, readField}
 use Rattle.condition.specs.Cond.{wordCount}
 use Rattle.condition.specs.Reading.{counted, conditionAt, formOf}
-use Rattle.reader.specs.Sheet.{Transition, Sheet, count, transitionOf, rowOf}
+use Rattle.condition.specs.declared.CondRead.{CondRead}
+use Rattle.condition.specs.declared.CondRead.the-variants as condread
+use Rattle.reader.specs.Sheet.{Transition, Sheet, count, transitionOf, rowOf, noTransition}
+use Rattle.reader.specs.declared.Header.{Header}
 use Rattle.reader.specs.declared.Line.{Line}
+use Rattle.reader.specs.declared.Rows.{Rows}
+use Rattle.reader.specs.declared.Lines.{Lines}
 use Rattle.reader.specs.declared.Decoded.{Decoded}
 use Rattle.reader.specs.declared.How.{How}
 use Rattle.reader.specs.declared.How.the-variants as how
+use Rattle.reader.specs.declared.HeadRead.{HeadRead}
+use Rattle.reader.specs.declared.HeadRead.the-variants as headread
+use Rattle.reader.specs.declared.RowRead.{RowRead}
+use Rattle.reader.specs.declared.RowRead.the-variants as rowread
+use Rattle.reader.specs.declared.NamesRead.{NamesRead}
+use Rattle.reader.specs.declared.NamesRead.the-variants as namesread
+use Rattle.reader.specs.declared.LineRead.{LineRead}
+use Rattle.reader.specs.declared.LineRead.the-variants as lineread
+
+-- what the code answers of what is read
+abbrev pub forgetHeader : Ans Header → HeadRead
+forgetHeader (ok h next) = headread.Head h (record { at = next })
+forgetHeader (no why) = headread.Bad why
+
+abbrev pub forgetRow : Ans (List Bool) → RowRead
+forgetRow (ok row next) = rowread.Row (wordOf row) (record { at = next })
+forgetRow (no why) = rowread.Bad why
+
+-- the refusal in an answer that is one
+abbrev pub condFault : CondRead → Refusal
+condFault (condread.Bad why) = why
+condFault (condread.Next c f) = refuse.OneState
+
+abbrev pub headFault : HeadRead → Refusal
+headFault (headread.Bad why) = why
+headFault (headread.Head h c) = refuse.OneState
+
+abbrev pub howFault : How → Refusal
+howFault (how.Bad why) = why
+howFault (how.Done c) = refuse.OneState
+
+-- a transition in two steps: the states that it names, and the rest
+pub record Names : Type 0 where
+  pub source : ℕ
+  pub destination : ℕ
+
+unfoldable pub namesAt : List ℕ → ℕ → ℕ → Ans Names
+namesAt s n at =
+    bind (readField s 5 at) λ source a1.
+    guard (ltb source n) (refuse.StateNo at) (
+    bind (readField s 5 a1) λ destination a2.
+    guard (ltb destination n) (refuse.StateNo a1) (ok (record { source = source; destination = destination }) a2))
+
+unfoldable pub restAt : List ℕ → ℕ → ℕ → ℕ → ℕ → Ans Transition
+restAt s k source destination at =
+    bind (readField s 7 at) λ priority a1.
+    bind (readField s 24 a1) λ wait a2.
+    bind (conditionAt s k a2) λ t a3.
+    ok (record { source = source; destination = destination; priority = priority; wait = wait; condition = t .tree }) a3
+
+abbrev pub forgetNames : Ans Names → NamesRead
+forgetNames (ok x next) = namesread.Names (x .source) (x .destination) (record { at = next })
+forgetNames (no why) = namesread.Bad why
 
 abbrev pub noLine : Line
 noLine = record { source = 0; destination = 0; priority = 0; form = 0; words = 0; wait = 0; cond = 0 }
@@ -30,6 +90,21 @@ pub record Holds (s : List ℕ) (k : ℕ) (line : Line) (t : Transition) : Type 
   pub next : ℕ
   pub there : conditionAt s k (line .cond) ≡ ok (counted (t .condition) nodes) next
 
+-- the code's answer is that transition, or the refusal
+abbrev pub LineIs : List ℕ → ℕ → Ans Transition → LineRead → Type 0
+LineIs s k (ok t next) r = (line : Line) × (r ≡ lineread.Next line (record { at = next })) × Holds s k line t
+LineIs s k (no why) r = r ≡ lineread.Bad why
+
+-- the code's rows and lines are those of the lists
+abbrev pub HoldsRows : Ans (List (List Bool)) → ℕ → Rows → Type 0
+HoldsRows (ok xs next) n r = (r .how ≡ how.Done (record { at = next })) × ((i : ℕ) → i < n → getD (r .rows) i 0 ≡ wordOf (getD xs i []))
+HoldsRows (no why) n r = r .how ≡ how.Bad why
+
+abbrev pub HoldsLines : List ℕ → ℕ → Ans (List Transition) → ℕ → Lines → Type 0
+HoldsLines s k (ok ts next) m r =
+    (r .how ≡ how.Done (record { at = next })) × ((i : ℕ) → i < m → Holds s k (getD (r .lines) i noLine) (getD ts i noTransition))
+HoldsLines s k (no why) m r = r .how ≡ how.Bad why
+
 -- the code's copy is that sheet
 pub record Copy (s : List ℕ) (d : Decoded) (a : Sheet) : Type 0 where
   pub states : d .states ≡ a .states
@@ -42,4 +117,4 @@ pub record Copy (s : List ℕ) (d : Decoded) (a : Sheet) : Type 0 where
 -- the code's answer is that of the reader
 abbrev pub Answers : List ℕ → Ans Sheet → Decoded → Type 0
 Answers s (ok a end) d = (d .how ≡ how.Done (record { at = end })) × Copy s d a
-Answers s (no r) d = d .how ≡ how.Bad r
+Answers s (no why) d = d .how ≡ how.Bad why

@@ -1,12 +1,14 @@
-// Reading a sheet: header, rows, transitions, and nothing more. Numbers 1 to 6, in reading order.
+// Reading a sheet: header, rows, transitions, and nothing more. Numbers 1 to 6, in reading order; the sheet is decoded once.
 use answer::Refusal;
 use bits::Cursor;
 use bits::Got;
 use condition::CondRead;
 ghost use mathlib.Core.Path.{_≡_};
 ghost use Prim.Native.Nat.{_≤_, _<_};
-ghost use Rattle.reader.specs.Reading.{readSheet};
-ghost use Rattle.reader.specs.Decoding.{Answers};
+ghost use Rattle.bits.specs.Word.{bitsOf, wordOf};
+ghost use Rattle.bits.specs.Read.{upto};
+ghost use Rattle.reader.specs.Reading.{readHeader, rowAt, transitionAt, endsAt, readSheet};
+ghost use Rattle.reader.specs.Decoding.{forgetHeader, forgetRow, HoldsRows, forgetNames, namesAt, LineIs, restAt, HoldsLines, Answers, condFault, headFault, howFault};
 
 // The header's four numbers.
 pub struct Header {
@@ -22,7 +24,7 @@ pub struct Line {
     pub destination: u8,
     pub priority: u8,
     pub form: u8,
-    pub words: u8,
+    pub words: u32,
     pub wait: u32,
     pub cond: usize,
 }
@@ -42,4 +44,344 @@ pub struct Decoded {
     pub transitions: usize,
     pub rows: [u16; 32],
     pub lines: [Line; 128],
+}
+
+// The answers of the steps below: what was read with the cursor after it, or the refusal.
+pub enum HeadRead {
+    Head(Header, Cursor),
+    Bad(Refusal),
+}
+
+pub enum RowRead {
+    Row(u16, Cursor),
+    Bad(Refusal),
+}
+
+pub enum NamesRead {
+    Names(u8, u8, Cursor),
+    Bad(Refusal),
+}
+
+pub enum LineRead {
+    Next(Line, Cursor),
+    Bad(Refusal),
+}
+
+pub struct Rows {
+    pub how: How,
+    pub rows: [u16; 32],
+}
+
+pub struct Lines {
+    pub how: How,
+    pub lines: [Line; 128],
+}
+
+fn read_header(s: &[u8]) -> HeadRead
+    ensures { λ r. ⌜ r ≡ forgetHeader (readHeader (now (s .entry))) ⌝ }
+{
+    let c = Cursor { at: 0 };
+    let g1 = bits::field(s, c, 5);
+    let Got::Field(n, c1) = g1 else {
+        return HeadRead::Bad(Refusal::Short(0));
+    };
+    if n == 0 {
+        return HeadRead::Bad(Refusal::OneState);
+    }
+    let at1 = c1.at;
+    let g2 = bits::field(s, c1, 4);
+    let Got::Field(k, c2) = g2 else {
+        return HeadRead::Bad(Refusal::Short(at1));
+    };
+    let at2 = c2.at;
+    let g3 = bits::field(s, c2, 4);
+    let Got::Field(l, c3) = g3 else {
+        return HeadRead::Bad(Refusal::Short(at2));
+    };
+    let at3 = c3.at;
+    let g4 = bits::field(s, c3, 7);
+    let Got::Field(m, c4) = g4 else {
+        return HeadRead::Bad(Refusal::Short(at3));
+    };
+    HeadRead::Head(
+        Header {
+            states: n + 1,
+            inputs: k + 1,
+            outputs: l + 1,
+            transitions: m + 1,
+        },
+        c4,
+    )
+}
+
+// A row's field as an output word: the field has output 0 first, the word gives it weight 1.
+fn output_word(v: u32, width: usize) -> u16
+    requires { ⌜ width ≤ 16 ⌝ }
+    ensures { λ r. ⌜ r ≡ wordOf (bitsOf width v) ⌝ }
+{
+    let mut word: u32 = 0;
+    let mut i: usize = 0;
+    while i < width {
+        word = word * 2 + (v >> i) % 2;
+        i += 1;
+    }
+    word as u16
+}
+
+fn read_row(s: &[u8], c: Cursor, width: usize) -> RowRead
+    requires { ⌜ (c .at < 1000000) × (1 ≤ width) × (width ≤ 16) ⌝ }
+    ensures { λ r. ⌜ r ≡ forgetRow (rowAt (now (s .entry)) width (c .at)) ⌝ }
+{
+    let at = c.at;
+    let g = bits::field(s, c, width);
+    let Got::Field(v, next) = g else {
+        return RowRead::Bad(Refusal::Short(at));
+    };
+    RowRead::Row(output_word(v, width), next)
+}
+
+// The rows of the first n states.
+fn read_rows(s: &[u8], c: Cursor, n: usize, width: usize) -> Rows
+    requires { ⌜ (c .at ≤ 100) × (n ≤ 32) × (1 ≤ width) × (width ≤ 16) ⌝ }
+    ensures { λ r. ⌜ HoldsRows (upto (rowAt (now (s .entry)) width) (c .at) n) n r ⌝ }
+{
+    let mut rows = [0u16; 32];
+    let mut here = c;
+    let mut i: usize = 0;
+    while i < n {
+        let g = read_row(s, here, width);
+        match g {
+            RowRead::Row(row, next) => {
+                rows[i] = row;
+                here = next;
+                i += 1;
+            }
+            RowRead::Bad(why) => {
+                return Rows {
+                    how: How::Bad(why),
+                    rows: rows,
+                };
+            }
+        }
+    }
+    Rows {
+        how: How::Done(here),
+        rows: rows,
+    }
+}
+
+// The source and the destination of a transition.
+fn read_names(s: &[u8], c: Cursor, n: u32) -> NamesRead
+    requires { ⌜ c .at < 800000 ⌝ }
+    ensures { λ r. ⌜ r ≡ forgetNames (namesAt (now (s .entry)) n (c .at)) ⌝ }
+{
+    let at = c.at;
+    let g1 = bits::field(s, c, 5);
+    let Got::Field(source, c1) = g1 else {
+        return NamesRead::Bad(Refusal::Short(at));
+    };
+    if n <= source {
+        return NamesRead::Bad(Refusal::StateNo(at));
+    }
+    let at1 = c1.at;
+    let g2 = bits::field(s, c1, 5);
+    let Got::Field(destination, c2) = g2 else {
+        return NamesRead::Bad(Refusal::Short(at1));
+    };
+    if n <= destination {
+        return NamesRead::Bad(Refusal::StateNo(at1));
+    }
+    NamesRead::Names(source as u8, destination as u8, c2)
+}
+
+// The refusal of a condition that was refused.
+fn cond_fault(a: CondRead) -> Refusal
+    ensures { λ r. ⌜ r ≡ condFault a ⌝ }
+{
+    match a {
+        CondRead::Bad(why) => why,
+        CondRead::Next(_, _) => Refusal::OneState,
+    }
+}
+
+// The rest of a transition behind its two states: priority, wait and condition.
+fn read_rest(s: &[u8], c: Cursor, k: u32, source: u8, destination: u8) -> LineRead
+    requires { ⌜ c .at < 800010 ⌝ }
+    ensures { λ r. ⌜ LineIs (now (s .entry)) k (restAt (now (s .entry)) k source destination (c .at)) r ⌝ }
+{
+    let at = c.at;
+    let g1 = bits::field(s, c, 7);
+    let Got::Field(priority, c1) = g1 else {
+        return LineRead::Bad(Refusal::Short(at));
+    };
+    let at1 = c1.at;
+    let g2 = bits::field(s, c1, 24);
+    let Got::Field(wait, c2) = g2 else {
+        return LineRead::Bad(Refusal::Short(at1));
+    };
+    let at2 = c2.at;
+    let a = condition::read_condition(s, c2, k, 8, 0, 0);
+    let CondRead::Next(next, f) = a else {
+        return LineRead::Bad(cond_fault(a));
+    };
+    let line = Line {
+        source: source,
+        destination: destination,
+        priority: priority as u8,
+        form: f.form,
+        words: f.words,
+        wait: wait,
+        cond: at2,
+    };
+    LineRead::Next(line, next)
+}
+
+fn read_transition(s: &[u8], c: Cursor, n: u32, k: u32) -> LineRead
+    requires { ⌜ c .at < 800000 ⌝ }
+    ensures { λ r. ⌜ LineIs (now (s .entry)) k (transitionAt (now (s .entry)) n k (c .at)) r ⌝ }
+{
+    let g = read_names(s, c, n);
+    match g {
+        NamesRead::Names(source, destination, next) => read_rest(s, next, k, source, destination),
+        NamesRead::Bad(why) => LineRead::Bad(why),
+    }
+}
+
+// The first m transitions.
+fn read_transitions(s: &[u8], c: Cursor, n: u32, k: u32, m: usize) -> Lines
+    requires { ⌜ (c .at ≤ 1000) × (m ≤ 128) ⌝ }
+    ensures { λ r. ⌜ HoldsLines (now (s .entry)) k (upto (transitionAt (now (s .entry)) n k) (c .at) m) m r ⌝ }
+{
+    let mut lines = [Line {
+        source: 0,
+        destination: 0,
+        priority: 0,
+        form: 0,
+        words: 0,
+        wait: 0,
+        cond: 0,
+    }; 128];
+    let mut here = c;
+    let mut i: usize = 0;
+    while i < m {
+        let g = read_transition(s, here, n, k);
+        match g {
+            LineRead::Next(line, next) => {
+                lines[i] = line;
+                here = next;
+                i += 1;
+            }
+            LineRead::Bad(why) => {
+                return Lines {
+                    how: How::Bad(why),
+                    lines: lines,
+                };
+            }
+        }
+    }
+    Lines {
+        how: How::Done(here),
+        lines: lines,
+    }
+}
+
+// Whether nothing but zero bits up to the byte follows.
+fn ends_here(s: &[u8], c: Cursor) -> bool
+    requires { ⌜ c .at < 100000 ⌝ }
+    ensures { λ r. ⌜ r ≡ endsAt (now (s .entry)) (c .at) ⌝ }
+{
+    let at = c.at;
+    let stop = (at + 7) / 8;
+    if s.len() != stop {
+        return false;
+    }
+    let spare = stop * 8 - at;
+    if spare == 0 {
+        return true;
+    }
+    let g = bits::field(s, c, spare);
+    let Got::Field(v, _) = g else {
+        return false;
+    };
+    v == 0
+}
+
+// The refusal of a header, or of rows or transitions, that were refused.
+fn head_fault(h: HeadRead) -> Refusal
+    ensures { λ r. ⌜ r ≡ headFault h ⌝ }
+{
+    match h {
+        HeadRead::Bad(why) => why,
+        HeadRead::Head(_, _) => Refusal::OneState,
+    }
+}
+
+fn how_fault(h: How) -> Refusal
+    ensures { λ r. ⌜ r ≡ howFault h ⌝ }
+{
+    match h {
+        How::Bad(why) => why,
+        How::Done(_) => Refusal::OneState,
+    }
+}
+
+fn unread(why: Refusal) -> Decoded
+    ensures { λ r. ⌜ r .how ≡ How.Bad why ⌝ }
+{
+    Decoded {
+        how: How::Bad(why),
+        states: 0,
+        inputs: 0,
+        outputs: 0,
+        transitions: 0,
+        rows: [0u16; 32],
+        lines: [Line {
+            source: 0,
+            destination: 0,
+            priority: 0,
+            form: 0,
+            words: 0,
+            wait: 0,
+            cond: 0,
+        }; 128],
+    }
+}
+
+// The sheet that the bytes are, or the first refusal met.
+pub fn read_sheet(s: &[u8]) -> Decoded
+    ensures { λ r. ⌜ Answers (now (s .entry)) (readSheet (now (s .entry))) r ⌝ }
+{
+    let h = read_header(s);
+    let HeadRead::Head(head, c1) = h else {
+        return unread(head_fault(h));
+    };
+    let n = head.states;
+    let k = head.inputs;
+    let l = head.outputs;
+    let m = head.transitions;
+    let got_rows = read_rows(s, c1, n as usize, l as usize);
+    let how1 = got_rows.how;
+    let How::Done(c2) = how1 else {
+        return unread(how_fault(how1));
+    };
+    let got_lines = read_transitions(s, c2, n, k, m as usize);
+    let how2 = got_lines.how;
+    let How::Done(c3) = how2 else {
+        return unread(how_fault(how2));
+    };
+    if ends_here(s, c3) {
+        let rows = got_rows.rows;
+        let lines = got_lines.lines;
+        return Decoded {
+            how: How::Done(c3),
+            states: n,
+            inputs: k,
+            outputs: l,
+            transitions: m as usize,
+            rows: rows,
+            lines: lines,
+        };
+    }
+    let end = c3.at;
+    unread(Refusal::Tail(end))
 }
