@@ -10,7 +10,7 @@ use borrow.Author.Tests.{eqb-true, eqb-false}
 use lib.Dec.{eqb, eqb·zero-suc, eqb·suc-zero, eqb·suc-suc}
 use lib.ListN.{length}
 use lib.Pow.{shr-shr, shl-exact}
-use Rattle.bits.specs.Word.{bitNo, getBit, putBit, wordOf}
+use Rattle.bits.specs.Word.{bitNo, getBit, putBit, wordOf, bitsOf}
 
 -- a bit as a shift finds it
 pub get-is : (w i : ℕ) → getBit w i ≡ eqb (w / 2 ^ i % 2) 1
@@ -123,3 +123,20 @@ put-known w i b g e = rw e at (put-sum w i b)
 -- a weight as the code shifts it
 pub one-shl : (i : ℕ) → i < 32 → 1 * 2 ^ i % 4294967296 ≡ 2 ^ i
 one-shl i h = shl-exact 1 i 32 (omega arith) (omega arith) ∙ one-mul (2 ^ i)
+
+-- a bit as a number
+pub bit-no : (w i : ℕ) → bitNo (getBit w i) ≡ w / 2 ^ i % 2
+bit-no w i = rw (get-is w i) (go (eqb (w / 2 ^ i % 2) 1) refl)
+  where
+    go : (b : Bool) → eqb (w / 2 ^ i % 2) 1 ≡ b → bitNo b ≡ w / 2 ^ i % 2
+    go true e = omega (arith, eqb-true (w / 2 ^ i % 2) 1 e)
+    go false e = let n : w / 2 ^ i % 2 ≢ 1 = eqb-false (w / 2 ^ i % 2) 1 e in omega arith
+
+-- w bits, and the word that they make
+pub bits-length : (w v : ℕ) → length (bitsOf w v) ≡ w
+unfolding bitsOf
+bits-length zero v = refl
+bits-length (suc w) v = ap suc (bits-length w v)
+
+pub bits-below : (w v : ℕ) → wordOf (bitsOf w v) < 2 ^ w
+bits-below w v = rw (bits-length w v) at (word-lt (bitsOf w v))

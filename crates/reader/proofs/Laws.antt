@@ -1,0 +1,237 @@
+-- Laws of reading a sheet: how far the cursor goes, and what the code's steps find. Assumes nothing.
+use mathlib.Core.Path.{_≡_, refl, sym, ap, _∙_}
+use mathlib.Core.List.{List, [], _∷_, _++_}
+use mathlib.Core.Bool.{Bool, true, false, not, _&&_}
+use Prim.Native.Nat.{ℕ, zero, suc, _+_, _*_, _-_, _/_, _%_, _^_, _≤_, _<_}
+use native.Mathlib.Numerals.{add-one}
+use native.Mathlib.Omega.{arith}
+use lib.ListN.{length, getD}
+use lib.Dec.{ltb, eqb}
+use borrow.Author.Tests.{eq-eqb, ne-eqb}
+use Rattle.answer.specs.declared.Refusal.{Refusal}
+use Rattle.answer.specs.declared.Refusal.the-variants as refuse
+use Rattle.bits.specs.Field.{fieldAt, numAt}
+use Rattle.bits.specs.Word.{bitNo, getBit, wordOf, bitsOf}
+use Rattle.bits.specs.Read.{Ans, ok, no, bind, guard, readField, upto}
+use Rattle.bits.specs.declared.Cursor.{Cursor}
+use Rattle.bits.specs.declared.Got.the-variants as got
+use Rattle.bits.proofs.FieldLaws.{field-here}
+use Rattle.bits.proofs.WordLaws.{bit-no}
+use Rattle.bits.proofs.ReadLaws.{ok-next, ok-is, ok-no, bind-ok, guard-ok, field-read, upto-next}
+use Rattle.condition.specs.Reading.{Counted, conditionAt}
+use Rattle.condition.proofs.Laws.{cond-went}
+use Rattle.reader.specs.Sheet.{Transition}
+use Rattle.reader.specs.Reading.{readHeader, rowAt, transitionAt, endsAt}
+use Rattle.reader.specs.Decoding.{Names, namesAt, restAt, forgetHeader, forgetRow, forgetNames, LineIs, Holds, HoldsRows, HoldsLines}
+use Rattle.reader.specs.declared.Header.{Header}
+use Rattle.reader.specs.declared.Line.{Line}
+use Rattle.reader.specs.declared.Rows.{Rows}
+use Rattle.reader.specs.declared.Lines.{Lines}
+use Rattle.reader.specs.declared.How.{How}
+use Rattle.reader.specs.declared.How.the-variants as how
+use Rattle.reader.specs.declared.HeadRead.the-variants as headread
+use Rattle.reader.specs.declared.RowRead.the-variants as rowread
+use Rattle.reader.specs.declared.NamesRead.the-variants as namesread
+use Rattle.reader.specs.declared.LineRead.{LineRead}
+use Rattle.reader.specs.declared.LineRead.the-variants as lineread
+
+-- a test and what follows it may be taken apart
+bind-guard : {A B : Type 0} (t : Bool) (r : Refusal) (x : Ans A) (f : A → ℕ → Ans B) → bind (guard t r x) f ≡ guard t r (bind x f)
+bind-guard true r x f = refl
+bind-guard false r x f = refl
+
+bind-bind : {A B C : Type 0} (x : Ans A) (f : A → ℕ → Ans B) (g : B → ℕ → Ans C) → bind (bind x f) g ≡ bind x (λ a m. bind (f a m) g)
+bind-bind (ok a m) f g = refl
+bind-bind (no r) f g = refl
+
+bind-same : {A B : Type 0} (x : Ans A) (f g : A → ℕ → Ans B) → ((a : A) (m : ℕ) → f a m ≡ g a m) → bind x f ≡ bind x g
+bind-same (ok a m) f g h = h a m
+bind-same (no r) f g h = refl
+
+-- a transition is the states that it names, and the rest
+pub transition-is : (s : List ℕ) (n k at : ℕ) → transitionAt s n k at ≡ bind (namesAt s n at) (λ x a. restAt s k (x .source) (x .destination) a)
+unfolding transitionAt namesAt restAt
+transition-is s n k at =
+    sym
+    (bind-bind (readField s 5 at) _ _
+    ∙ bind-same (readField s 5 at) _ _ λ source a1.
+    bind-guard (ltb source n) (refuse.StateNo at) _ _
+    ∙ ap (guard (ltb source n) (refuse.StateNo at))
+    (bind-bind (readField s 5 a1) _ _
+    ∙ bind-same (readField s 5 a1) _ _ λ destination a2. bind-guard (ltb destination n) (refuse.StateNo a1) _ _))
+
+-- how far they go
+pub names-next : (s : List ℕ) (n at : ℕ) {x : Names} {next : ℕ} → namesAt s n at ≡ ok x next → next ≡ at + 10
+unfolding namesAt
+names-next s n at {x} {next} h =
+    let x1 = bind-ok (readField s 5 at) _ h in
+    let g1 = guard-ok (ltb (x1 .0) n) (refuse.StateNo at) _ (x1 .3) in
+    let x2 = bind-ok (readField s 5 (x1 .1)) _ (g1 .1) in
+    let g2 = guard-ok (ltb (x2 .0) n) (refuse.StateNo (x1 .1)) _ (x2 .3) in
+    omega (arith, field-read s 5 at (x1 .2) .after, field-read s 5 (x1 .1) (x2 .2) .after, ok-next (g2 .1))
+
+pub rest-next : (s : List ℕ) (k source destination at : ℕ) {t : Transition} {next : ℕ} → restAt s k source destination at ≡ ok t next
+    → next ≤ at + 217
+unfolding restAt
+rest-next s k source destination at {t} {next} h =
+    let x1 = bind-ok (readField s 7 at) _ h in
+    let x2 = bind-ok (readField s 24 (x1 .1)) _ (x1 .3) in
+    let x3 = bind-ok (conditionAt s k (x2 .1)) _ (x2 .3) in
+    let w = cond-went 8 s k 0 (x2 .1) (x3 .0) (x3 .1) (x3 .2) in
+    omega (arith, field-read s 7 at (x1 .2) .after, field-read s 24 (x1 .1) (x2 .2) .after, ok-next (x3 .3), w .pace, w .few)
+
+-- a transition is at most 227 bits long
+pub transition-next : (s : List ℕ) (n k at : ℕ) {t : Transition} {next : ℕ} → transitionAt s n k at ≡ ok t next → next ≤ at + 227
+transition-next s n k at {t} {next} h =
+    let x = bind-ok (namesAt s n at) _ (sym (transition-is s n k at) ∙ h) in
+    omega (arith, names-next s n at (x .2), rest-next s k (x .0 .source) (x .0 .destination) (x .1) (x .3))
+
+pub row-next : (s : List ℕ) (l at : ℕ) {row : List Bool} {next : ℕ} → rowAt s l at ≡ ok row next → next ≡ at + l
+unfolding rowAt
+row-next s l at {row} {next} h =
+    let x = bind-ok (readField s l at) _ h in
+    omega (arith, field-read s l at (x .2) .after, ok-next (x .3))
+
+-- the code's answers name what was read, or the refusal
+cursor-is : {a : ℕ} {c : Cursor} → record { at = a } ≡ c → a ≡ c .at
+cursor-is h = ap (λ (x : Cursor). x .at) h
+
+pub header-got : (x : Ans Header) (h : Header) (c : Cursor) → forgetHeader x ≡ headread.Head h c → x ≡ ok h (c .at)
+header-got (ok g next) h c e =
+    let p : g ≡ h = cc in
+    let q : record { at = next } ≡ c = cc in
+    ap (λ (k : Header). ok k next) p ∙ ap (λ (m : ℕ). ok h m) (cursor-is q)
+header-got (no why) h c e = let z : _≡_ {A = ℕ} 0 1 = cc in absurd (omega arith)
+
+pub header-bad : (x : Ans Header) (q : Refusal) → forgetHeader x ≡ headread.Bad q → x ≡ no q
+header-bad (ok g next) q e = let z : _≡_ {A = ℕ} 0 1 = cc in absurd (omega arith)
+header-bad (no p) q e = let r : p ≡ q = cc in ap no r
+
+pub row-got : (x : Ans (List Bool)) (w : ℕ) (c : Cursor) → forgetRow x ≡ rowread.Row w c → (row : List Bool) × (x ≡ ok row (c .at)) × (w ≡ wordOf row)
+row-got (ok row next) w c e =
+    let p : w ≡ wordOf row = cc in
+    let q : record { at = next } ≡ c = cc in
+    (row, ap (λ (m : ℕ). ok row m) (cursor-is q), p)
+row-got (no why) w c e = let z : _≡_ {A = ℕ} 0 1 = cc in absurd (omega arith)
+
+pub row-bad : (x : Ans (List Bool)) (q : Refusal) → forgetRow x ≡ rowread.Bad q → x ≡ no q
+row-bad (ok g next) q e = let z : _≡_ {A = ℕ} 0 1 = cc in absurd (omega arith)
+row-bad (no p) q e = let r : p ≡ q = cc in ap no r
+
+pub names-got : (x : Ans Names) (a b : ℕ) (c : Cursor) → forgetNames x ≡ namesread.Names a b c → x ≡ ok (record { source = a; destination = b }) (c .at)
+names-got (ok y next) a b c e =
+    let p : y .source ≡ a = cc in
+    let r : y .destination ≡ b = cc in
+    let q : record { at = next } ≡ c = cc in
+    ap (λ (m : ℕ). ok (record { source = m; destination = y .destination }) next) p
+    ∙ ap (λ (m : ℕ). ok (record { source = a; destination = m }) next) r
+    ∙ ap (λ (m : ℕ). ok (record { source = a; destination = b }) m) (cursor-is q)
+names-got (no why) a b c e = let z : _≡_ {A = ℕ} 0 1 = cc in absurd (omega arith)
+
+pub names-bad : (x : Ans Names) (q : Refusal) → forgetNames x ≡ namesread.Bad q → x ≡ no q
+names-bad (ok g next) q e = let z : _≡_ {A = ℕ} 0 1 = cc in absurd (omega arith)
+names-bad (no p) q e = let r : p ≡ q = cc in ap no r
+
+next-line : {l m : Line} {c d : Cursor} → lineread.Next l c ≡ lineread.Next m d → l ≡ m
+next-line h = cc
+
+next-cursor : {l m : Line} {c d : Cursor} → lineread.Next l c ≡ lineread.Next m d → c ≡ d
+next-cursor h = cc
+
+pub line-got : (s : List ℕ) (k : ℕ) (x : Ans Transition) (r : LineRead) (l : Line) (c : Cursor) → LineIs s k x r → r ≡ lineread.Next l c
+    → (t : Transition) × (x ≡ ok t (c .at)) × Holds s k l t
+line-got s k (ok t next) r l c h e =
+    let f : lineread.Next (h .0) (record { at = next }) ≡ lineread.Next l c = sym (h .1) ∙ e in
+    (t, ap (λ (m : ℕ). ok t m) (cursor-is (next-cursor f)), rw (next-line f) at (h .2))
+line-got s k (no why) r l c h e = let f : lineread.Bad why ≡ lineread.Next l c = sym h ∙ e in let z : _≡_ {A = ℕ} 0 1 = cc in absurd (omega arith)
+
+pub line-bad : (s : List ℕ) (k : ℕ) (x : Ans Transition) (r : LineRead) (q : Refusal) → LineIs s k x r → r ≡ lineread.Bad q → x ≡ no q
+line-bad s k (ok t next) r q h e =
+    let f : lineread.Next (h .0) (record { at = next }) ≡ lineread.Bad q = sym (h .1) ∙ e in
+    let z : _≡_ {A = ℕ} 0 1 = cc in
+    absurd (omega arith)
+line-bad s k (no p) r q h e = let f : lineread.Bad p ≡ lineread.Bad q = sym h ∙ e in let g : p ≡ q = cc in ap no g
+
+done-is : {a b : Cursor} → how.Done a ≡ how.Done b → a ≡ b
+done-is h = cc
+
+bad-is : {a b : Refusal} → how.Bad a ≡ how.Bad b → a ≡ b
+bad-is h = cc
+
+done-bad : {A : Type 0} {a : Cursor} {b : Refusal} → how.Done a ≡ how.Bad b → A
+done-bad h = let z : _≡_ {A = ℕ} 0 1 = cc in absurd (omega arith)
+
+-- an answer that is told by its `how`: done with what Q says, or refused
+module _ {A : Type 0} (Q : A → Type 0) (H : Ans A → How → Type 0)
+  (H-ok : (x : A) (next : ℕ) (w : How) → H (ok x next) w → (w ≡ how.Done (record { at = next })) × Q x)
+  (H-no : (why : Refusal) (w : How) → H (no why) w → w ≡ how.Bad why) where
+  pub how-done : (x : Ans A) (w : How) (c : Cursor) → H x w → w ≡ how.Done c → (a : A) × (x ≡ ok a (c .at)) × Q a
+  how-done (ok a next) w c h e =
+      let g = H-ok a next w h in
+      (a, ap (λ (m : ℕ). ok a m) (cursor-is (done-is (sym (g .0) ∙ e))), g .1)
+  how-done (no why) w c h e = done-bad (sym e ∙ H-no why w h)
+
+  pub how-bad : (x : Ans A) (w : How) (q : Refusal) → H x w → w ≡ how.Bad q → x ≡ no q
+  how-bad (ok a next) w q h e = done-bad (sym (H-ok a next w h .0) ∙ e)
+  how-bad (no why) w q h e = ap no (bad-is (sym (H-no why w h) ∙ e))
+
+-- a row's word, one output more
+pub word-more : (v w : ℕ) → wordOf (bitsOf w v) * 2 + v / 2 ^ w % 2 ≡ wordOf (bitsOf (w + 1) v)
+unfolding wordOf bitsOf
+word-more v w = rw (add-one, bit-no v w) (omega arith)
+
+-- nothing but zero bits follows
+module _ (s : List ℕ) (at : ℕ) where
+  pub ends-other : (length s ≡ (at + 7) / 8 → ⊥) → endsAt s at ≡ false
+  unfolding endsAt
+  ends-other h = rw (ne-eqb _ _ h)
+
+  pub ends-spare : length s ≡ (at + 7) / 8 → endsAt s at ≡ eqb (numAt s at ((at + 7) / 8 * 8 - at)) 0
+  unfolding endsAt
+  ends-spare h = rw (eq-eqb _ _ h)
+
+pub not-short : (s : List ℕ) (at w : ℕ) → at + w ≤ length s * 8 → fieldAt s at w ≡ got.Short → ⊥
+not-short s at w h e =
+    let f : got.Field (numAt s at w) (record { at = at + w }) ≡ got.Short = sym (field-here s at w h) ∙ e in
+    let z : _≡_ {A = ℕ} 0 1 = cc in
+    omega arith
+
+-- what a header that is read says
+pub record Headed (h : Header) (a : ℕ) : Type 0 where
+  pub after : a ≡ 20
+  pub states : (2 ≤ h .states) × (h .states ≤ 32)
+  pub inputs : (1 ≤ h .inputs) × (h .inputs ≤ 16)
+  pub outputs : (1 ≤ h .outputs) × (h .outputs ≤ 16)
+  pub transitions : (1 ≤ h .transitions) × (h .transitions ≤ 128)
+
+some : (n : ℕ) → not (eqb n 0) ≡ true → 1 ≤ n
+some zero e = let z : _≡_ {A = ℕ} 0 1 = cc in absurd (omega arith)
+some (suc n) e = omega arith
+
+pub header-fits : (s : List ℕ) {h : Header} {a : ℕ} → readHeader s ≡ ok h a → Headed h a
+unfolding readHeader
+header-fits s {h} {a} e =
+    let x1 = bind-ok (readField s 5 0) _ e in
+    let g1 = guard-ok (not (eqb (x1 .0) 0)) refuse.OneState _ (x1 .3) in
+    let x2 = bind-ok (readField s 4 (x1 .1)) _ (g1 .1) in
+    let x3 = bind-ok (readField s 4 (x2 .1)) _ (x2 .3) in
+    let x4 = bind-ok (readField s 7 (x3 .1)) _ (x3 .3) in
+    let f1 = field-read s 5 0 (x1 .2) in
+    let f2 = field-read s 4 (x1 .1) (x2 .2) in
+    let f3 = field-read s 4 (x2 .1) (x3 .2) in
+    let f4 = field-read s 7 (x3 .1) (x4 .2) in
+    let q = ok-next (x4 .3) in
+    let hd = ok-is (x4 .3) in
+    let p1 : x1 .0 + 1 ≡ h .states = ap (λ (x : Header). x .states) hd in
+    let p2 : x2 .0 + 1 ≡ h .inputs = ap (λ (x : Header). x .inputs) hd in
+    let p3 : x3 .0 + 1 ≡ h .outputs = ap (λ (x : Header). x .outputs) hd in
+    let p4 : x4 .0 + 1 ≡ h .transitions = ap (λ (x : Header). x .transitions) hd in
+    let one : 1 ≤ x1 .0 = some (x1 .0) (g1 .0) in
+    omega arith
+
+-- where the rows and the transitions end
+pub rows-next : (s : List ℕ) (l at n : ℕ) {xs : List (List Bool)} {b : ℕ} → l ≤ 16 → n ≤ 32 → upto (rowAt s l) at n ≡ ok xs b → b ≤ at + 512
+rows-next s l at n h k e = omega (arith, upto-next (rowAt s l) 16 (λ a x b e. omega (arith, row-next s l a e)) at n e)
+
+pub transitions-next : (s : List ℕ) (n k at m : ℕ) {ts : List Transition} {b : ℕ} → m ≤ 128 → upto (transitionAt s n k) at m ≡ ok ts b → b ≤ at + 29056
+transitions-next s n k at m h e = omega (arith, upto-next (transitionAt s n k) 227 (λ a t b e. transition-next s n k a e) at m e)
