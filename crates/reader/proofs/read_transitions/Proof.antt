@@ -1,58 +1,84 @@
+-- `reader::read_transitions` meets its contract. The invariant: the transitions passed are read, and the array holds them. Assumes nothing.
+use borrow.Author.Needs.{needs}
+use mathlib.Core.Path.{_≡_, refl, sym, ap, _∙_}
+use mathlib.Core.List.{List, [], _∷_, _++_}
+use Prim.Native.Nat.{ℕ, _+_, _*_, _-_, _≤_, _<_}
+use native.Mathlib.Omega.{arith}
+use lib.ListN.{length, length-set}
+use Rattle.bits.specs.Read.{ok, upto}
+use Rattle.bits.proofs.ReadLaws.{upto-more, upto-bad, upto-length}
+use Rattle.reader.specs.Sheet.{Transition, noTransition}
+use Rattle.reader.specs.Reading.{transitionAt}
+use Rattle.reader.specs.Decoding.{Holds, noLine}
+use Rattle.reader.proofs.FillLaws.{Filled, filled-more}
+use Rattle.reader.proofs.Laws.{line-got, line-bad, transition-next}
 use Rattle.reader.proofs.read_transitions.Statement.{statement}
 use Rattle.reader.proofs.read_transitions.Tie as tie
-use Rattle.reader.proofs.read_transitions.Reads as reads
-use Rattle.reader.proofs.read_transitions.Lts as lts
-use Rattle.reader.proofs.read_transition.Reads as read-transition-reads
 
 abbrev Inv-loop : tie.InvT-loop
-Inv-loop s n k m lines₀ here₀ i₀ lines here i = ?
+Inv-loop s n k m lines₀ here₀ i₀ lines here i =
+    (length lines ≡ 128) × (i ≤ m) × (here .at ≤ 1000 + 227 * i) × (ts : List Transition) × (upto (transitionAt s n k) (here₀ .at) i ≡ ok ts (here .at))
+    × Filled (Holds s k) noLine noTransition lines ts i
 
 abbrev μ-loop : tie.MeasureT-loop
-μ-loop s n k m lines₀ here₀ i₀ lines here i = ?
+μ-loop s n k m lines₀ here₀ i₀ lines here i = m - i
 
--- src/lib.rt:244:5
 loop-holds : tie.Need-loop-holds Inv-loop μ-loop
-loop-holds c = ?
+unfolding upto
+loop-holds c = (refl, omega arith, omega arith, [], refl, λ j h. absurd (omega arith))
 
--- src/lib.rt:245:13
 read-transition-requires : tie.Need-read-transition-requires Inv-loop μ-loop
-read-transition-requires c κs = ?
+read-transition-requires c κs = omega arith
 
--- src/lib.rt:247:28
 enum-known-g : tie.Need-enum-known-g Inv-loop μ-loop
-enum-known-g c = ?
+enum-known-g c = search needs
 
--- src/lib.rt:248:17
 mul-lines : tie.Need-mul-lines Inv-loop μ-loop
-mul-lines c = ?
+mul-lines c = omega arith
 
--- src/lib.rt:248:17
 array-set-from-lines : tie.Need-array-set-from-lines Inv-loop μ-loop
-array-set-from-lines c = ?
+array-set-from-lines c = omega arith
 
--- src/lib.rt:250:17
 add-i : tie.Need-add-i Inv-loop μ-loop
-add-i c = ?
+add-i c = omega arith
 
--- src/lib.rt:244:5
 loop-less : tie.Need-loop-less Inv-loop μ-loop
-loop-less c = ?
+loop-less c = omega arith
 
--- src/lib.rt:244:5
 loop-again : tie.Need-loop-again Inv-loop μ-loop
-loop-again c = ?
+loop-again c =
+    let a = c .before .before .before .before .before .before .before .args in
+    let l = c .before .before .before .before .before .loop in
+    let g = c .before .g .given in
+    let x = line-got (a .s .now) (a .k) (transitionAt (a .s .now) (a .n) (a .k) (l .here .at)) (c .before .before .before .read-transition .result) (g .0 .0) (g .0 .1 .0) (c .before .before .before .read-transition .ensures) (g .1) in
+    (length-set (l .lines) (l .i) (g .0 .0) ∙ l .inv .0,
+    omega arith,
+    omega (arith, transition-next (a .s .now) (a .n) (a .k) (l .here .at) (x .1)),
+    l .inv .3 ++ x .0 ∷ [],
+    upto-more (transitionAt (a .s .now) (a .n) (a .k)) (a .c .at) (l .i) (l .inv .4) (x .1),
+    filled-more (Holds (a .s .now) (a .k)) noLine noTransition (l .lines) (l .inv .3) (l .i) (g .0 .0) (x .0) (omega arith)
+    (upto-length (transitionAt (a .s .now) (a .n) (a .k)) (a .c .at) (l .i) (l .inv .4))
+    (l .inv .5)
+    (x .2))
 
--- src/lib.rt:252:27
 enum-known-g-2 : tie.Need-enum-known-g-2 Inv-loop μ-loop
-enum-known-g-2 c = ?
+enum-known-g-2 c = search needs
 
--- src/lib.rt:253:17
 returns : tie.Need-returns Inv-loop μ-loop
-returns c = ?
+returns c =
+    let a = c .before .before .before .before .before .before .before .args in
+    let l = c .before .before .before .before .before .loop in
+    let g = c .before .g2 .given in
+    let x = line-bad (a .s .now) (a .k) (transitionAt (a .s .now) (a .n) (a .k) (l .here .at)) (c .before .before .before .read-transition .result) (g .0 .0) (c .before .before .before .read-transition .ensures) (g .1) in
+    rw (upto-bad (transitionAt (a .s .now) (a .n) (a .k)) (a .c .at) (l .i) (a .m) (omega arith) (l .inv .4) x) refl
 
--- src/lib.rt:237:1
 returns-2 : tie.Need-returns-2 Inv-loop μ-loop
-returns-2 c = ?
+returns-2 c =
+    let a = c .before .before .before .args in
+    let l = c .before .loop in
+    let done : l .i ≡ a .m = omega arith in
+    let e : upto (transitionAt (a .s .now) (a .n) (a .k)) (a .c .at) (a .m) ≡ ok (l .inv .3) (l .here .at) = rw done at (l .inv .4) in
+    rw e (refl, λ j h. l .inv .5 j (omega arith))
 
 pub read-transitions-spec : {M : Type 1} → statement M
 read-transitions-spec =
