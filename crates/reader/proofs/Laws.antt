@@ -20,9 +20,9 @@ use Rattle.bits.proofs.WordLaws.{bit-no}
 use Rattle.bits.proofs.ReadLaws.{ok-next, ok-is, ok-no, bind-ok, guard-ok, field-read, upto-next}
 use Rattle.condition.specs.Reading.{Counted, conditionAt}
 use Rattle.condition.proofs.Laws.{cond-went}
-use Rattle.reader.specs.Sheet.{Transition}
+use Rattle.reader.specs.Sheet.{Transition, noTransition}
 use Rattle.reader.specs.Reading.{readHeader, rowAt, transitionAt, endsAt}
-use Rattle.reader.specs.Decoding.{Names, namesAt, restAt, forgetHeader, forgetRow, forgetNames, LineIs, Holds, HoldsRows, HoldsLines}
+use Rattle.reader.specs.Decoding.{Names, namesAt, restAt, forgetHeader, forgetRow, forgetNames, noLine, LineIs, Holds, HoldsRows, HoldsLines}
 use Rattle.reader.specs.declared.Header.{Header}
 use Rattle.reader.specs.declared.Line.{Line}
 use Rattle.reader.specs.declared.Rows.{Rows}
@@ -161,19 +161,24 @@ bad-is h = cc
 done-bad : {A : Type 0} {a : Cursor} {b : Refusal} → how.Done a ≡ how.Bad b → A
 done-bad h = let z : _≡_ {A = ℕ} 0 1 = cc in absurd (omega arith)
 
--- an answer that is told by its `how`: done with what Q says, or refused
-module _ {A : Type 0} (Q : A → Type 0) (H : Ans A → How → Type 0)
-  (H-ok : (x : A) (next : ℕ) (w : How) → H (ok x next) w → (w ≡ how.Done (record { at = next })) × Q x)
-  (H-no : (why : Refusal) (w : How) → H (no why) w → w ≡ how.Bad why) where
-  pub how-done : (x : Ans A) (w : How) (c : Cursor) → H x w → w ≡ how.Done c → (a : A) × (x ≡ ok a (c .at)) × Q a
-  how-done (ok a next) w c h e =
-      let g = H-ok a next w h in
-      (a, ap (λ (m : ℕ). ok a m) (cursor-is (done-is (sym (g .0) ∙ e))), g .1)
-  how-done (no why) w c h e = done-bad (sym e ∙ H-no why w h)
+-- rows and transitions that were read, or refused
+pub rows-done : (x : Ans (List (List Bool))) (n : ℕ) (r : Rows) (c : Cursor) → HoldsRows x n r → r .how ≡ how.Done c
+    → (xs : List (List Bool)) × (x ≡ ok xs (c .at)) × ((i : ℕ) → i < n → getD (r .rows) i 0 ≡ wordOf (getD xs i []))
+rows-done (ok xs next) n r c h e = (xs, ap (λ (m : ℕ). ok xs m) (cursor-is (done-is (sym (h .0) ∙ e))), h .1)
+rows-done (no why) n r c h e = done-bad (sym e ∙ h)
 
-  pub how-bad : (x : Ans A) (w : How) (q : Refusal) → H x w → w ≡ how.Bad q → x ≡ no q
-  how-bad (ok a next) w q h e = done-bad (sym (H-ok a next w h .0) ∙ e)
-  how-bad (no why) w q h e = ap no (bad-is (sym (H-no why w h) ∙ e))
+pub rows-bad : (x : Ans (List (List Bool))) (n : ℕ) (r : Rows) (q : Refusal) → HoldsRows x n r → r .how ≡ how.Bad q → x ≡ no q
+rows-bad (ok xs next) n r q h e = done-bad (sym (h .0) ∙ e)
+rows-bad (no why) n r q h e = ap no (bad-is (sym h ∙ e))
+
+pub lines-done : (s : List ℕ) (k : ℕ) (x : Ans (List Transition)) (m : ℕ) (r : Lines) (c : Cursor) → HoldsLines s k x m r → r .how ≡ how.Done c
+    → (ts : List Transition) × (x ≡ ok ts (c .at)) × ((i : ℕ) → i < m → Holds s k (getD (r .lines) i noLine) (getD ts i noTransition))
+lines-done s k (ok ts next) m r c h e = (ts, ap (λ (n : ℕ). ok ts n) (cursor-is (done-is (sym (h .0) ∙ e))), h .1)
+lines-done s k (no why) m r c h e = done-bad (sym e ∙ h)
+
+pub lines-bad : (s : List ℕ) (k : ℕ) (x : Ans (List Transition)) (m : ℕ) (r : Lines) (q : Refusal) → HoldsLines s k x m r → r .how ≡ how.Bad q → x ≡ no q
+lines-bad s k (ok ts next) m r q h e = done-bad (sym (h .0) ∙ e)
+lines-bad s k (no why) m r q h e = ap no (bad-is (sym h ∙ e))
 
 -- a row's word, one output more
 pub word-more : (v w : ℕ) → wordOf (bitsOf w v) * 2 + v / 2 ^ w % 2 ≡ wordOf (bitsOf (w + 1) v)

@@ -25,10 +25,11 @@ loop-holds c = (omega arith, refl)
 -- what is gathered has as many bits as were passed
 small : (c : tie.In-loop Inv-loop μ-loop) → c .before .loop .word < 2 ^ 16
 small c =
-    omega
-    (arith,
-    bits-below (c .before .loop .i) (c .before .before .args .v),
-    pow-mono {i = c .before .loop .i} {j = 16} (omega arith))
+    omega (
+      arith,
+      bits-below (c .before .loop .i) (c .before .before .args .v),
+      pow-mono {i = c .before .loop .i} {j = 16} (omega arith),
+    )
 
 -- src/lib.rt:117:16
 mul-word : tie.Need-mul-word Inv-loop μ-loop
@@ -61,10 +62,11 @@ loop-again c = (omega arith, rw (c .before .loop .inv .1) (word-more (c .before 
 -- src/lib.rt:120:5
 cast-result : tie.Need-cast-result Inv-loop μ-loop
 cast-result c =
-    omega
-    (arith,
-    bits-below (c .before .loop .i) (c .before .before .args .v),
-    pow-mono {i = c .before .loop .i} {j = 16} (omega arith))
+    omega (
+      arith,
+      bits-below (c .before .loop .i) (c .before .before .args .v),
+      pow-mono {i = c .before .loop .i} {j = 16} (omega arith),
+    )
 
 -- src/lib.rt:110:1
 returns : tie.Need-returns Inv-loop μ-loop

@@ -83,20 +83,21 @@ returns-4 c =
     let a = c .before .a .given in
     let e = sym (c .before .before .before .read-condition .ensures) ∙ a .1 in
     let x = forget-next 0 (conditionAt (c .before .before .before .before .before .before .before .before .before .before .before .before .before .args .s .now) (c .before .before .before .before .before .before .before .before .before .before .before .before .before .args .k) (c .before .before .before .before .before .g2 .given .0 .1 .0 .at)) (a .0 .0) (a .0 .1 .0) e in
-    rw (there1 (c .before .before .before .before .before .before .before .before), there2 (c .before .before .before .before), x .1)
-    (_,
-    refl,
-    record {
-      source = refl;
-      destination = refl;
-      priority = refl;
-      wait = refl;
-      form = ap (λ (f : Facts). f .form) (x .2);
-      words = ap (λ (f : Facts). f .words) (x .2);
-      nodes = x .0 .count;
-      next = a .0 .0 .at;
-      there = x .1;
-    })
+    rw (there1 (c .before .before .before .before .before .before .before .before), there2 (c .before .before .before .before), x .1) (
+      _,
+      refl,
+      record {
+        source = refl;
+        destination = refl;
+        priority = refl;
+        wait = refl;
+        form = ap (λ (f : Facts). f .form) (x .2);
+        words = ap (λ (f : Facts). f .words) (x .2);
+        nodes = x .0 .count;
+        next = a .0 .0 .at;
+        there = x .1;
+      },
+    )
 
 pub read-rest-spec : {M : Type 1} → statement M
 read-rest-spec =

@@ -53,16 +53,17 @@ loop-again c =
     let a = c .before .before .before .before .before .before .before .args in
     let l = c .before .before .before .before .before .loop in
     let g = c .before .g .given in
-    let x = row-got (rowAt (a .s .now) (a .width) (l .here .at)) (g .0 .0) (g .0 .1 .0) (sym (c .before .before .before .read-row .ensures) ∙ g .1) in
-    (length-set (l .rows) (l .i) (g .0 .0) ∙ l .inv .0,
-    omega arith,
-    omega (arith, row-next (a .s .now) (a .width) (l .here .at) (x .1)),
-    l .inv .3 ++ x .0 ∷ [],
-    upto-more (rowAt (a .s .now) (a .width)) (a .c .at) (l .i) (l .inv .4) (x .1),
-    filled-more IsWord 0 [] (l .rows) (l .inv .3) (l .i) (g .0 .0) (x .0) (omega arith)
-    (upto-length (rowAt (a .s .now) (a .width)) (a .c .at) (l .i) (l .inv .4))
-    (l .inv .5)
-    (x .2))
+    let x = row-got (rowAt (a .s .now) (a .width) (l .here .at)) (g .0 .0) (g .0 .1 .0) (sym (c .before .before .before .read-row .ensures) ∙ g .1) in (
+      length-set (l .rows) (l .i) (g .0 .0) ∙ l .inv .0,
+      omega arith,
+      omega (arith, row-next (a .s .now) (a .width) (l .here .at) (x .1)),
+      l .inv .3 ++ x .0 ∷ [],
+      upto-more (rowAt (a .s .now) (a .width)) (a .c .at) (l .i) (l .inv .4) (x .1),
+      filled-more IsWord 0 [] (l .rows) (l .inv .3) (l .i) (g .0 .0) (x .0) (omega arith)
+          (upto-length (rowAt (a .s .now) (a .width)) (a .c .at) (l .i) (l .inv .4))
+          (l .inv .5)
+          (x .2),
+    )
 
 enum-known-g-2 : tie.Need-enum-known-g-2 Inv-loop μ-loop
 enum-known-g-2 c = search needs

@@ -50,16 +50,17 @@ loop-again c =
     let a = c .before .before .before .before .before .before .before .args in
     let l = c .before .before .before .before .before .loop in
     let g = c .before .g .given in
-    let x = line-got (a .s .now) (a .k) (transitionAt (a .s .now) (a .n) (a .k) (l .here .at)) (c .before .before .before .read-transition .result) (g .0 .0) (g .0 .1 .0) (c .before .before .before .read-transition .ensures) (g .1) in
-    (length-set (l .lines) (l .i) (g .0 .0) ∙ l .inv .0,
-    omega arith,
-    omega (arith, transition-next (a .s .now) (a .n) (a .k) (l .here .at) (x .1)),
-    l .inv .3 ++ x .0 ∷ [],
-    upto-more (transitionAt (a .s .now) (a .n) (a .k)) (a .c .at) (l .i) (l .inv .4) (x .1),
-    filled-more (Holds (a .s .now) (a .k)) noLine noTransition (l .lines) (l .inv .3) (l .i) (g .0 .0) (x .0) (omega arith)
-    (upto-length (transitionAt (a .s .now) (a .n) (a .k)) (a .c .at) (l .i) (l .inv .4))
-    (l .inv .5)
-    (x .2))
+    let x = line-got (a .s .now) (a .k) (transitionAt (a .s .now) (a .n) (a .k) (l .here .at)) (c .before .before .before .read-transition .result) (g .0 .0) (g .0 .1 .0) (c .before .before .before .read-transition .ensures) (g .1) in (
+      length-set (l .lines) (l .i) (g .0 .0) ∙ l .inv .0,
+      omega arith,
+      omega (arith, transition-next (a .s .now) (a .n) (a .k) (l .here .at) (x .1)),
+      l .inv .3 ++ x .0 ∷ [],
+      upto-more (transitionAt (a .s .now) (a .n) (a .k)) (a .c .at) (l .i) (l .inv .4) (x .1),
+      filled-more (Holds (a .s .now) (a .k)) noLine noTransition (l .lines) (l .inv .3) (l .i) (g .0 .0) (x .0) (omega arith)
+          (upto-length (transitionAt (a .s .now) (a .n) (a .k)) (a .c .at) (l .i) (l .inv .4))
+          (l .inv .5)
+          (x .2),
+    )
 
 enum-known-g-2 : tie.Need-enum-known-g-2 Inv-loop μ-loop
 enum-known-g-2 c = search needs
