@@ -86,6 +86,7 @@ pub record Holds (s : List ℕ) (k : ℕ) (line : Line) (t : Transition) : Type 
   pub wait : line .wait ≡ t .wait
   pub form : line .form ≡ formOf (t .condition)
   pub words : line .words ≡ wordCount (t .condition)
+  pub near : line .cond < 900000
   pub nodes : ℕ
   pub next : ℕ
   pub there : conditionAt s k (line .cond) ≡ ok (counted (t .condition) nodes) next

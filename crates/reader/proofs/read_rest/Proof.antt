@@ -93,6 +93,7 @@ returns-4 c =
         wait = refl;
         form = ap (λ (f : Facts). f .form) (x .2);
         words = ap (λ (f : Facts). f .words) (x .2);
+        near = omega (arith, near1 (c .before .before .before .before .before .before .before .before) .after, near2 (c .before .before .before .before) .after);
         nodes = x .0 .count;
         next = a .0 .0 .at;
         there = x .1;
