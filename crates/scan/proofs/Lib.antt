@@ -1,0 +1,4 @@
+pub mod AllLaws
+pub mod ChoiceLaws
+pub mod BestLaws
+pub mod PickLaws
