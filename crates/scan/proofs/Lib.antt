@@ -2,3 +2,4 @@ pub mod AllLaws
 pub mod ChoiceLaws
 pub mod BestLaws
 pub mod PickLaws
+pub mod ScanLaws

@@ -13,7 +13,7 @@ ghost use Rattle.reader.specs.Sheet.{Transition, noTransition};
 ghost use Rattle.reader.specs.Decoding.{Holds, noLine};
 ghost use Rattle.sheet.specs.Opening.{Opens};
 ghost use Rattle.scan.specs.Scan.{can, best, scanSheet, coldScan};
-ghost use Rattle.scan.specs.Picking.{Picks, tookOf};
+ghost use Rattle.scan.specs.Picking.{Picks, tookOf, Inside, movedOf};
 
 // The reference's record: the active state, its outputs (output a has weight 2^a) and the clock.
 pub struct State {
@@ -79,4 +79,41 @@ fn choose(s: &[u8], lines: [Line; 128], m: usize, k: u32, active: u8, word: u32,
         i += 1;
     }
     best
+}
+
+// The record after a scan that brought the clock forward and chose p.
+fn moved(rows: [u16; 32], record: State, clock: u32, p: Pick) -> State
+    requires { ⌜ Inside p ⌝ }
+    ensures { λ r. ⌜ r ≡ movedOf rows «record» clock p ⌝ }
+{
+    match p {
+        Pick::Nothing => State { state: record.state, outputs: record.outputs, clock: clock },
+        Pick::Best(_, destination) => {
+            let outputs = rows[destination as usize];
+            State { state: destination, outputs: outputs, clock: 0 }
+        }
+    }
+}
+
+// A scan on a sheet that was opened.
+fn scan_opened(sheet: &[u8], o: Opened, record: State, inputs: u16, elapsed: u32) -> Scanned
+    requires { ⌜ Opens (now sheet) o ⌝ }
+    ensures { λ r. ⌜ r ≡ scanSheet (now (sheet .entry)) «record» inputs elapsed ⌝ }
+{
+    let verdict = o.verdict;
+    match verdict {
+        Checked::Refused(why) => Scanned { verdict: Checked::Refused(why), record: record },
+        Checked::Accepted => {
+            let d = o.decoded;
+            let active = record.state;
+            if d.states <= active as u32 {
+                return Scanned { verdict: Checked::Refused(Refusal::NoState(active as usize)), record: record };
+            }
+            let clock = clock::bring_forward(record.clock, elapsed);
+            let lines = d.lines;
+            let rows = d.rows;
+            let p = choose(sheet, lines, d.transitions, d.inputs, active, inputs as u32, clock);
+            Scanned { verdict: Checked::Accepted, record: moved(rows, record, clock, p) }
+        }
+    }
 }

@@ -1,6 +1,6 @@
 -- `scan::choose` meets its contract. The invariant: the best of the transitions passed, joined with the best of the rest, is the best of all. Assumes nothing.
 use borrow.Author.Needs.{needs}
-use mathlib.Core.Path.{_≡_, refl, sym, ap, _∙_}
+use mathlib.Core.Path.{_≡_, refl, sym, ap, _∙_, subst}
 use mathlib.Core.Logic.{⊎-elim}
 use mathlib.Core.List.{List, [], _∷_}
 use Prim.Native.Nat.{ℕ, suc, _+_, _-_, _≤_, _<_}
@@ -38,7 +38,7 @@ array-copy-out-line : tie.Need-array-copy-out-line Inv-loop μ-loop
 array-copy-out-line c = omega arith
 
 can-fire-requires : tie.Need-can-fire-requires Inv-loop μ-loop
-can-fire-requires c κs = ?
+can-fire-requires c κs = c .before .before .before .before .pre .1 (c .before .before .loop .i) (omega arith)
 
 took-requires : tie.Need-took-requires Inv-loop μ-loop
 took-requires c κs = search needs
@@ -50,10 +50,23 @@ loop-less : tie.Need-loop-less Inv-loop μ-loop
 loop-less c = omega arith
 
 loop-again : tie.Need-loop-again Inv-loop μ-loop
-loop-again c = ?
+loop-again c =
+    let a = c .before .before .before .before .before .before .args in
+    let l = c .before .before .before .before .loop in
+    (omega arith,
+    λ ts e h.
+    let here = h (l .i) (omega arith) in
+    let before = l .inv .1 ts e h in
+    let can = c .before .can-fire .ensures (getD ts (l .i) noTransition) here in
+    ⊎-elim
+    (λ w. subst (Passed (a .active) (a .word) (a .clock) ts (l .i + 1)) (sym (w .2 ∙ w .1 .ensures)) (passed-fires (a .active) (a .word) (a .clock) ts (l .i) (l .best) (omega arith) before (getD (a .t2) (l .i) noLine) (here .priority) (here .destination) (sym can ∙ w .0 .taken)))
+    (λ w. subst (Passed (a .active) (a .word) (a .clock) ts (l .i + 1)) (sym (w .1)) (passed-stays (a .active) (a .word) (a .clock) ts (l .i) (l .best) (omega arith) before (sym can ∙ w .0 .left)))
+    (c .if1 .came))
 
 returns : tie.Need-returns Inv-loop μ-loop
-returns c = ?
+returns c ts e h =
+    let a = c .before .before .before .args in
+    passed-end (a .active) (a .word) (a .clock) ts (c .before .loop .i) (c .before .loop .best) (omega arith) (c .before .loop .inv .1 ts e h)
 
 pub choose-spec : {M : Type 1} → statement M
 choose-spec =
