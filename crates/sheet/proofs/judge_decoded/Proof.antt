@@ -1,0 +1,96 @@
+-- `sheet::judge_decoded` meets its contract. Assumes nothing.
+use mathlib.Core.Path.{sym, _∙_}
+use Rattle.sheet.specs.Lines.{judgeLines}
+use Rattle.sheet.proofs.CopyLaws.{judge-same}
+use borrow.Author.Needs.{needs}
+use Rattle.sheet.proofs.judge_decoded.Statement.{statement}
+use Rattle.sheet.proofs.judge_decoded.Tie as tie
+
+first-loop-requires : tie.Need-first-loop-requires
+first-loop-requires c κs = search needs
+
+enum-known-to-itself : tie.Need-enum-known-to-itself
+enum-known-to-itself c = search needs
+
+returns : tie.Need-returns
+unfolding judgeLines
+returns c s a k =
+    rw (← judge-same s _ a k)
+    (rw (sym (c .before .before .before .first-loop .ensures) ∙ c .before .to-itself .given .1))
+
+enum-told : tie.Need-enum-told
+enum-told c = search needs
+
+first-pair-requires : tie.Need-first-pair-requires
+first-pair-requires c κs = search needs
+
+enum-known-pair : tie.Need-enum-known-pair
+enum-known-pair c = search needs
+
+returns-2 : tie.Need-returns-2
+unfolding judgeLines
+returns-2 c s a k =
+    rw (← judge-same s _ a k)
+    (rw (
+      sym (c .before .before .before .before .before .before .first-loop .ensures) ∙ c .before .before .before .before .enum-told .given .1,
+      sym (c .before .before .before .first-pair .ensures) ∙ c .before .pair .given .1,
+    ))
+
+enum-told-2 : tie.Need-enum-told-2
+enum-told-2 c = search needs
+
+first-rank-requires : tie.Need-first-rank-requires
+first-rank-requires c κs = search needs
+
+enum-known-rank : tie.Need-enum-known-rank
+enum-known-rank c = search needs
+
+returns-3 : tie.Need-returns-3
+unfolding judgeLines
+returns-3 c s a k =
+    rw (← judge-same s _ a k)
+    (rw (
+      sym (c .before .before .before .before .before .before .before .before .before .first-loop .ensures) ∙ c .before .before .before .before .before .before .before .enum-told .given .1,
+      sym (c .before .before .before .before .before .before .first-pair .ensures) ∙ c .before .before .before .before .enum-told2 .given .1,
+      sym (c .before .before .before .first-rank .ensures) ∙ c .before .rank .given .1,
+    ))
+
+enum-told-3 : tie.Need-enum-told-3
+enum-told-3 c = search needs
+
+cast-judge-forms : tie.Need-cast-judge-forms
+cast-judge-forms c = search needs
+
+judge-forms-requires : tie.Need-judge-forms-requires
+judge-forms-requires c κs = search needs
+
+returns-4 : tie.Need-returns-4
+unfolding judgeLines
+returns-4 c s a k =
+    rw (← judge-same s _ a k)
+    (rw (
+      c .judge-forms .ensures,
+      sym (c .before .before .before .before .before .before .before .before .before .before .before .first-loop .ensures) ∙ c .before .before .before .before .before .before .before .before .before .enum-told .given .1,
+      sym (c .before .before .before .before .before .before .before .before .first-pair .ensures) ∙ c .before .before .before .before .before .before .enum-told2 .given .1,
+      sym (c .before .before .before .before .before .first-rank .ensures) ∙ c .before .before .before .enum-told3 .given .1,
+    ))
+
+pub judge-decoded-spec : {M : Type 1} → statement M
+judge-decoded-spec =
+    tie.close
+    (tie.spec
+    first-loop-requires
+    enum-known-to-itself
+    returns
+    enum-told
+    first-pair-requires
+    enum-known-pair
+    returns-2
+    enum-told-2
+    first-rank-requires
+    enum-known-rank
+    returns-3
+    enum-told-3
+    cast-judge-forms
+    judge-forms-requires
+    returns-4)
