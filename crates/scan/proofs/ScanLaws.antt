@@ -88,3 +88,8 @@ module _ (s : List ℕ) (o : Opened) (g : Good s o) where
   lines-hold i l =
       subst (λ (k : ℕ). Holds s k (getD (o .decoded .lines) i noLine) (transitionOf (g .sheet) i)) (sym (g .copy .inputs))
       (g .copy .line i (omega (arith, g .copy .transitions)))
+
+  -- the record that the code starts with is the cold one
+  pub cold-is : coldScan s ≡ accepted (record { state = 0; outputs = getD (o .decoded .rows) 0 0; clock = 0 })
+  unfolding coldOf outputsOf
+  cold-is = cold-accepted ∙ rw (g .copy .row 0 (omega (arith, fits .states .0))) refl

@@ -87,10 +87,18 @@ fn moved(rows: [u16; 32], record: State, clock: u32, p: Pick) -> State
     ensures { λ r. ⌜ r ≡ movedOf rows «record» clock p ⌝ }
 {
     match p {
-        Pick::Nothing => State { state: record.state, outputs: record.outputs, clock: clock },
+        Pick::Nothing => State {
+            state: record.state,
+            outputs: record.outputs,
+            clock: clock,
+        },
         Pick::Best(_, destination) => {
             let outputs = rows[destination as usize];
-            State { state: destination, outputs: outputs, clock: 0 }
+            State {
+                state: destination,
+                outputs: outputs,
+                clock: 0,
+            }
         }
     }
 }
@@ -102,18 +110,72 @@ fn scan_opened(sheet: &[u8], o: Opened, record: State, inputs: u16, elapsed: u32
 {
     let verdict = o.verdict;
     match verdict {
-        Checked::Refused(why) => Scanned { verdict: Checked::Refused(why), record: record },
+        Checked::Refused(why) => Scanned {
+            verdict: Checked::Refused(why),
+            record: record,
+        },
         Checked::Accepted => {
             let d = o.decoded;
             let active = record.state;
             if d.states <= active as u32 {
-                return Scanned { verdict: Checked::Refused(Refusal::NoState(active as usize)), record: record };
+                return Scanned {
+                    verdict: Checked::Refused(Refusal::NoState(active as usize)),
+                    record: record,
+                };
             }
             let clock = clock::bring_forward(record.clock, elapsed);
             let lines = d.lines;
             let rows = d.rows;
-            let p = choose(sheet, lines, d.transitions, d.inputs, active, inputs as u32, clock);
-            Scanned { verdict: Checked::Accepted, record: moved(rows, record, clock, p) }
+            let p = choose(
+                sheet,
+                lines,
+                d.transitions,
+                d.inputs,
+                active,
+                inputs as u32,
+                clock,
+            );
+            Scanned {
+                verdict: Checked::Accepted,
+                record: moved(rows, record, clock, p),
+            }
+        }
+    }
+}
+
+// One scan of the reference, on any byte string, record, input word and elapsed time.
+pub fn scan(sheet: &[u8], record: State, inputs: u16, elapsed: u32) -> Scanned
+    ensures { λ r. ⌜ r ≡ scanSheet (now (sheet .entry)) «record» inputs elapsed ⌝ }
+{
+    let o = sheet::open_sheet(sheet);
+    scan_opened(sheet, o, record, inputs, elapsed)
+}
+
+// The reference's cold start, on any byte string.
+pub fn cold_scan(sheet: &[u8]) -> Scanned
+    ensures { λ r. ⌜ r ≡ coldScan (now (sheet .entry)) ⌝ }
+{
+    let o = sheet::open_sheet(sheet);
+    let verdict = o.verdict;
+    match verdict {
+        Checked::Refused(why) => Scanned {
+            verdict: Checked::Refused(why),
+            record: State {
+                state: 0,
+                outputs: 0,
+                clock: 0,
+            },
+        },
+        Checked::Accepted => {
+            let d = o.decoded;
+            Scanned {
+                verdict: Checked::Accepted,
+                record: State {
+                    state: 0,
+                    outputs: d.rows[0],
+                    clock: 0,
+                },
+            }
         }
     }
 }

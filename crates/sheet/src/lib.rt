@@ -219,10 +219,16 @@ pub fn open_sheet(sheet: &[u8]) -> Opened
     let d = reader::read_sheet(sheet);
     let how = d.how;
     match how {
-        How::Bad(why) => Opened { verdict: Checked::Refused(why), decoded: d },
+        How::Bad(why) => Opened {
+            verdict: Checked::Refused(why),
+            decoded: d,
+        },
         How::Done(_) => {
             let verdict = judge_decoded(d);
-            Opened { verdict: verdict, decoded: d }
+            Opened {
+                verdict: verdict,
+                decoded: d,
+            }
         }
     }
 }

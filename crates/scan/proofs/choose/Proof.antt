@@ -52,16 +52,17 @@ loop-less c = omega arith
 loop-again : tie.Need-loop-again Inv-loop μ-loop
 loop-again c =
     let a = c .before .before .before .before .before .before .args in
-    let l = c .before .before .before .before .loop in
-    (omega arith,
-    λ ts e h.
-    let here = h (l .i) (omega arith) in
-    let before = l .inv .1 ts e h in
-    let can = c .before .can-fire .ensures (getD ts (l .i) noTransition) here in
-    ⊎-elim
-    (λ w. subst (Passed (a .active) (a .word) (a .clock) ts (l .i + 1)) (sym (w .2 ∙ w .1 .ensures)) (passed-fires (a .active) (a .word) (a .clock) ts (l .i) (l .best) (omega arith) before (getD (a .t2) (l .i) noLine) (here .priority) (here .destination) (sym can ∙ w .0 .taken)))
-    (λ w. subst (Passed (a .active) (a .word) (a .clock) ts (l .i + 1)) (sym (w .1)) (passed-stays (a .active) (a .word) (a .clock) ts (l .i) (l .best) (omega arith) before (sym can ∙ w .0 .left)))
-    (c .if1 .came))
+    let l = c .before .before .before .before .loop in (
+      omega arith,
+      λ ts e h.
+          let here = h (l .i) (omega arith) in
+          let before = l .inv .1 ts e h in
+          let can = c .before .can-fire .ensures (getD ts (l .i) noTransition) here in
+          ⊎-elim
+          (λ w. subst (Passed (a .active) (a .word) (a .clock) ts (l .i + 1)) (sym (w .2 ∙ w .1 .ensures)) (passed-fires (a .active) (a .word) (a .clock) ts (l .i) (l .best) (omega arith) before (getD (a .t2) (l .i) noLine) (here .priority) (here .destination) (sym can ∙ w .0 .taken)))
+          (λ w. subst (Passed (a .active) (a .word) (a .clock) ts (l .i + 1)) (sym (w .1)) (passed-stays (a .active) (a .word) (a .clock) ts (l .i) (l .best) (omega arith) before (sym can ∙ w .0 .left)))
+          (c .if1 .came),
+    )
 
 returns : tie.Need-returns Inv-loop μ-loop
 returns c ts e h =

@@ -47,9 +47,10 @@ bring-forward-requires c κs = search needs
 choose-requires : tie.Need-choose-requires
 choose-requires c κs =
     let a = c .before .before .before .before .before .before .before .before .before .args in
-    let g = good (c .before .before .before .before .before .before) in
-    (omega (arith, g .copy .transitions, fits (a .sheet .now) (a .o) g .transitions .1),
-    λ i l. g .copy .line i (omega (arith, g .copy .transitions)) .near)
+    let g = good (c .before .before .before .before .before .before) in (
+      omega (arith, g .copy .transitions, fits (a .sheet .now) (a .o) g .transitions .1),
+      λ i l. g .copy .line i (omega (arith, g .copy .transitions)) .near,
+    )
 
 moved-requires : tie.Need-moved-requires
 moved-requires c κs =
