@@ -838,8 +838,12 @@ static void all_short_codes(void)
             text_set(&t, w, letter[rest % LETTERS].code, letter[rest % LETTERS].operand);
             rest /= LETTERS;
         }
-        struct given g = {t.bytes, t.len, 0, dice_below(&d, 4), (uint16_t)dice_below(&d, 4), dice_from(&d, 98, 101),
-                          (uint16_t)dice_below(&d, 2), dice_below(&d, 3)};
+        struct given g = {t.bytes, t.len, 0, 0, 0, 0, 0, 0};
+        g.flags = dice_below(&d, 4);
+        g.outputs = (uint16_t)dice_below(&d, 4);
+        g.clock = dice_from(&d, 98, 101);
+        g.inputs = (uint16_t)dice_below(&d, 2);
+        g.elapsed = dice_below(&d, 3);
         if (both(CHECK_CODE, &g, &anything).number == CHZ_OK) {
             both(RUN, &g, &anything);
         }
@@ -937,6 +941,11 @@ static void random_aimed(struct dice *d)
     }
     aimed_seen[number]++;
     try_sheet(d, packed.bytes, packed.len, &e);
+    if (number != CHZ_SHORT && number != CHZ_TAIL) {
+        family = "a sheet spoilt for one number and cut";
+        cut(&packed, d, &e);
+        try_sheet(d, packed.bytes, packed.len, &e);
+    }
 }
 
 static void random_spoilt_twice(struct dice *d)
@@ -1058,7 +1067,8 @@ static void random_code(struct dice *d)
     for (uint32_t w = 0; w < words; w++) {
         static const uint8_t bare[6] = {W_NOT, W_AND, W_OR, W_CLOSE, W_TRES, W_END};
         bool plain = dice_one_in(d, 2);
-        text_set(&spoilt, w, plain ? bare[dice_below(d, 6)] : dice_below(d, 16), plain ? 0 : dice_below(d, words + 3));
+        uint32_t code = plain ? bare[dice_below(d, 6)] : dice_below(d, 16);
+        text_set(&spoilt, w, code, plain ? 0 : dice_below(d, words + 3));
     }
     if (dice_one_in(d, 2)) {
         text_set(&spoilt, words - 1, W_END, 0);

@@ -700,6 +700,10 @@ bool spoil(struct plan *p, struct dice *d, uint32_t number, struct packed *out, 
         if (big == t->condition.nodes) {
             return false;
         }
+        if (p->inputs < 16 && dice_one_in(d, 2)) {
+            /* At fault twice, where it is an input: its tag is judged first. */
+            t->condition.input[big] = (uint8_t)dice_from(d, p->inputs, 15);
+        }
         pack(p, out);
         e->place = out->tag_at[i][big];
         return true;
@@ -789,6 +793,26 @@ bool spoil(struct plan *p, struct dice *d, uint32_t number, struct packed *out, 
     }
     pack(p, out);
     return true;
+}
+
+void cut(struct packed *p, struct dice *d, struct expected *e)
+{
+    /* Mostly where the fault stands, else anywhere. */
+    bool read_to_end = e->number > CHZ_TAIL;
+    size_t len = read_to_end || dice_one_in(d, 4) ? dice_below(d, (uint32_t)p->len) : e->place / 8 + dice_below(d, 3);
+    if (len >= p->len) {
+        len = p->len - 1;
+    }
+    p->len = len;
+    uint32_t f = 0;
+    while (p->field[f + 1] <= 8 * len) {
+        f++;
+    }
+    /* The first field that isn't wholly there, unless one was refused before it. */
+    if (read_to_end || e->place >= p->field[f]) {
+        e->number = CHZ_SHORT;
+        e->place = p->field[f];
+    }
 }
 
 /* ---- Code ---- */
@@ -988,8 +1012,10 @@ static uint32_t above(struct dice *d, uint32_t limit)
         return limit + 1;
     case 1:
         return 0xFFFFFF;
-    case 2: /* right in its low byte */
-        return (dice_from(d, 1, 0xFFFF) << 8 | dice_below(d, limit + 1)) & 0xFFFFFF;
+    case 2: { /* right in its low byte */
+        uint32_t high = dice_from(d, 1, 0xFFFF);
+        return high << 8 | (dice_below(d, limit + 1) & 255);
+    }
     default:
         return dice_from(d, limit + 1, 0xFFFFFF);
     }
@@ -1079,7 +1105,8 @@ bool spoil_word(struct text *t, struct dice *d, enum word_fault fault, struct ex
     }
     switch (fault) {
     case FAULT_UNKNOWN:
-        text_set(t, w, dice_one_in(d, 3) ? 15 : dice_from(d, 15, 255), dice_one_in(d, 2) ? 0 : dice_below(d, 16));
+        operand = dice_one_in(d, 2) ? 0 : dice_below(d, 16);
+        text_set(t, w, dice_one_in(d, 3) ? 15 : dice_from(d, 15, 255), operand);
         break;
     case FAULT_OPERAND_END:
         text_set(t, w, W_END, operand);

@@ -12,7 +12,9 @@
 #include <stddef.h>
 #include <stdint.h>
 
-/* ---- Dice: xoshiro256**, seeded by splitmix64; the same on every machine ---- */
+/* ---- Dice: xoshiro256**, seeded by splitmix64; the same on every machine ----
+   C does not settle which argument of a call is worked out first, so no call
+   and no initializer below rolls twice. */
 
 struct dice {
     uint64_t s[4];
@@ -88,6 +90,9 @@ struct expected {
 /* Spoils an accepted plan so that it is refused with `number`, 1 to 13, and
    packs it. False where this plan can't be spoiled that way. */
 bool spoil(struct plan *p, struct dice *d, uint32_t number, struct packed *out, struct expected *e);
+
+/* Cuts a sheet so spoilt, though not for 1 or 6: what comes first is given. */
+void cut(struct packed *p, struct dice *d, struct expected *e);
 
 /* ---- Code ---- */
 

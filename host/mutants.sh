@@ -55,7 +55,10 @@ INPUT-NO at its tag                    | s/refused(CHZ_INPUT_NO, r->at - 4)/refu
 depth 9 allowed                        | s/depth > MOST_DEPTH/depth > MOST_DEPTH + 1/
 depth 8 refused                        | s/depth > MOST_DEPTH/depth >= MOST_DEPTH/
 BIG after its tag                      | s/refused(CHZ_BIG, r->at - 2)/refused(CHZ_BIG, r->at)/
-BIG before a tag that isn't there      | s/if (!take(r, 2, &tag)) {/if (nodes == MOST_NODES) return refused(CHZ_BIG, r->at); &/
+BIG where a 32nd tag isn't there       | s/if (!take(r, 2, &tag)) {/if (nodes == MOST_NODES) return refused(CHZ_BIG, r->at); &/
+BIG where a ninth deep tag isn't there | s/if (!take(r, 2, &tag)) {/if (depth > MOST_DEPTH) return refused(CHZ_BIG, r->at); &/
+SHORT of a number before BIG           | s/if (nodes == MOST_NODES ||/if (tag == INPUT \&\& r->bits - r->at < 4) return refused(CHZ_SHORT, r->at); &/
+INPUT-NO of a 32nd node before BIG     | s/if (nodes == MOST_NODES ||/struct reader ahead = *r; if (tag == INPUT \&\& take(\&ahead, 4, \&number) \&\& number >= s->inputs) return refused(CHZ_INPUT_NO, r->at); &/
 spare bits not looked at               | s/if (field != 0) {/if (0) {/
 a further byte allowed                 | s/if (r.at != r.bits) {/if (0) {/
 TAIL at the end of the byte            | s/refused(CHZ_TAIL, end)/refused(CHZ_TAIL, r.at)/
