@@ -69,6 +69,7 @@ static enum call calling;
 static struct given asked;
 
 static uint64_t answers;
+static uint64_t answers_of_case; /* decides where bytes are penned, so that a case alone goes as it went before */
 static uint64_t tally[CALLS][19];
 static uint64_t fault_seen[WORD_FAULTS];
 static uint64_t aimed_seen[19];
@@ -147,7 +148,7 @@ static void build_pen(void)
    forbidden; and sometimes starts where it starts, so that one byte before is. */
 static uint8_t *penned(const uint8_t *bytes, size_t len)
 {
-    uint8_t *to = answers % 4 == 3 ? pen : pen + PEN_BYTES - len;
+    uint8_t *to = answers_of_case % 4 == 3 ? pen : pen + PEN_BYTES - len;
     if (len != 0) {
         memcpy(to, bytes, len);
     }
@@ -318,6 +319,7 @@ static struct outcome both(enum call call, const struct given *g, const struct e
     }
 
     answers++;
+    answers_of_case++;
     if (!same(&library, &second)) {
         describe("the answers differ");
         print_outcome("library", &library);
@@ -1094,6 +1096,7 @@ static void one_case(uint64_t number)
 {
     struct dice d;
     case_number = number;
+    answers_of_case = 0;
     dice_seed(&d, seed, UINT64_C(1) << 32 | number);
     switch (number % 32) {
     case 0:
