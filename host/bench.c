@@ -2,9 +2,12 @@
  * bench.c: the proved library against the second program, each of the seven
  * calls, as a ratio. Both are built with the same -O2 for the same x86-64.
  *
- * The two take turns in one run, and the median of the repetitions counts, so
- * that a busy machine troubles both alike. A ratio below 1 means that the
- * library is the faster.
+ * The two take turns in one run, in short turns and with the first one
+ * changing, and the median of the repetitions counts. The time is the
+ * thread's own on the processor: wall time on a busy machine, in a trial of
+ * one program against itself, gave ratios from 0.3 to 3.4. The middle half of
+ * the ratios is printed beside the median, to show what the median is worth.
+ * A ratio below 1 means that the library is the faster.
  */
 
 #define _POSIX_C_SOURCE 200809L
@@ -18,8 +21,8 @@
 #include <string.h>
 #include <time.h>
 
-enum { REPETITIONS = 15 };
-static const double SHARE = 4e6; /* ns of one repetition of one side */
+enum { REPETITIONS = 61 };
+static const double SHARE = 1e6; /* ns, about, of one turn of one side */
 
 /* What the call now measured is given. */
 static const uint8_t *bytes;
@@ -65,7 +68,7 @@ typedef void loop(uint64_t times);
 static double now(void)
 {
     struct timespec t;
-    clock_gettime(CLOCK_MONOTONIC, &t);
+    clock_gettime(CLOCK_THREAD_CPUTIME_ID, &t);
     return (double)t.tv_sec * 1e9 + (double)t.tv_nsec;
 }
 
@@ -102,6 +105,8 @@ struct times {
     double library;
     double second;
     double ratio;
+    double low; /* a quarter of the ratios are below it */
+    double high;
 };
 
 static struct times measure(loop *library, loop *second)
@@ -112,18 +117,28 @@ static struct times measure(loop *library, loop *second)
     uint64_t a_times = enough(library);
     uint64_t b_times = enough(second);
     for (int i = 0; i < REPETITIONS; i++) {
-        a[i] = timed(library, a_times);
-        b[i] = timed(second, b_times);
+        if (i % 2 == 0) {
+            a[i] = timed(library, a_times);
+            b[i] = timed(second, b_times);
+        } else {
+            b[i] = timed(second, b_times);
+            a[i] = timed(library, a_times);
+        }
         ratio[i] = a[i] / b[i];
     }
-    struct times t = {median(a), median(b), median(ratio)};
+    struct times t = {0, 0, 0, 0, 0};
+    t.library = median(a);
+    t.second = median(b);
+    t.ratio = median(ratio); /* and now sorted */
+    t.low = ratio[REPETITIONS / 4];
+    t.high = ratio[REPETITIONS - 1 - REPETITIONS / 4];
     return t;
 }
 
 static void row(const char *call, const char *what, loop *library, loop *second)
 {
     struct times t = measure(library, second);
-    printf("| %s | %s | %.0f | %.0f | %.2f |\n", call, what, t.library, t.second, t.ratio);
+    printf("| %s | %s | %.0f | %.0f | %.2f | %.2f to %.2f |\n", call, what, t.library, t.second, t.ratio, t.low, t.high);
     fflush(stdout);
 }
 
@@ -202,9 +217,10 @@ static void word_rows(uint32_t words)
     straight_code(words);
     struct times check = measure(library_check_code, second_loop_check_code);
     struct times run = measure(library_run, second_loop_run);
-    printf("| check_code | %u | %.2f | %.2f | %.2f |\n", (unsigned)words, check.library / words, check.second / words,
-           check.ratio);
-    printf("| run | %u | %.2f | %.2f | %.2f |\n", (unsigned)words, run.library / words, run.second / words, run.ratio);
+    printf("| check_code | %u | %.2f | %.2f | %.2f | %.2f to %.2f |\n", (unsigned)words, check.library / words,
+           check.second / words, check.ratio, check.low, check.high);
+    printf("| run | %u | %.2f | %.2f | %.2f | %.2f to %.2f |\n", (unsigned)words, run.library / words, run.second / words,
+           run.ratio, run.low, run.high);
     fflush(stdout);
 }
 
@@ -212,7 +228,7 @@ int main(void)
 {
     struct dice d;
 
-    printf("| Call | Sheet or its code | Library, ns | Second program, ns | Ratio |\n|---|---|---:|---:|---:|\n");
+    printf("| Call | Sheet or its code | Library, ns | Second program, ns | Ratio | Middle half |\n|---|---|---:|---:|---:|---|\n");
     plan_two_contact(&plan);
     sheet_rows("two-contact", 3, 7); /* waiting for B, three transitions looked at */
     /* Of the large ones the last state, whose blocks stand last in the code,
@@ -225,7 +241,7 @@ int main(void)
     plan_largest(&plan, &d, 12);
     sheet_rows("longest, 12 states", 11, 0xFFFF);
 
-    printf("\n| Call | Words | Library, ns a word | Second program, ns a word | Ratio |\n|---|---:|---:|---:|---:|\n");
+    printf("\n| Call | Words | Library, ns a word | Second program, ns a word | Ratio | Middle half |\n|---|---:|---:|---:|---:|---|\n");
     clock0 = 0;
     word_rows(256);
     word_rows(1024);
