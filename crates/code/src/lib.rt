@@ -9,7 +9,7 @@ ghost use mir.Val.{boolByte};
 ghost use Rattle.answer.specs.declared.Checked.the-variants.{Accepted};
 ghost use Rattle.answer.specs.declared.Found.the-variants.{Nothing};
 ghost use Rattle.bits.specs.Word.{putBit};
-ghost use Rattle.code.specs.Word.{Word, known, decode, words};
+ghost use Rattle.code.specs.Word.{known, decode, words};
 ghost use Rattle.code.specs.Machine.{Frame, withClock, flagTo, outTo, exec};
 ghost use Rattle.code.specs.Check.{endFault, opens, faulty, unknown, firstFault, depthAt, landsOpen, firstLanding, checkCode};
 ghost use Rattle.code.specs.Run.{runCode};
@@ -157,10 +157,10 @@ fn first_fault(code: &[u8], n: usize, marks: &mut [u32; 256]) -> Found
     while at < n {
         let op = code_byte(code, at);
         let arg = operand(code, at);
+        note(marks, at, 0 < d);
         if word_fault(n, at, d, op, arg) {
             return Found::At(at);
         }
-        note(marks, at, 0 < d);
         d = opened(op, d);
         at += 1;
     }

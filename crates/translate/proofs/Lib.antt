@@ -1,0 +1,6 @@
+pub mod CodeLaws
+pub mod LengthLaws
+pub mod SortLaws
+pub mod NextLaws
+pub mod RankLaws
+pub mod RoomLaws
