@@ -1,12 +1,11 @@
 -- What the public definitions are on an accepted sheet.
-use mathlib.Core.Path.{_≡_, refl, sym, ap, _∙_}
-use mathlib.Core.Bool.{Bool, true, false, cond}
-use mathlib.Core.List.{List, [], _++_}
+use mathlib.Core.Path.{_≡_, refl, ap, _∙_}
+use mathlib.Core.Bool.{cond}
+use mathlib.Core.List.{List, _++_}
 use Prim.Native.Nat.{ℕ, _+_, _≤_, _<_}
 use native.Mathlib.Omega.{arith}
-use native.Mathlib.Nat.{zero-add}
-use borrow.Author.Tests.{lt-ltb, leb-true, le-leb}
-use lib.Dec.{leb, ltb}
+use borrow.Author.Tests.{lt-ltb}
+use lib.Dec.{leb}
 use lib.ListN.{length, take, drop}
 use lib.Seq.{sets, sets-eq, take-append-seam}
 use Rattle.answer.specs.declared.Refusal.{Refusal}
@@ -18,10 +17,7 @@ use Rattle.reader.specs.Sheet.{Sheet}
 use Rattle.reader.specs.Reading.{readSheet}
 use Rattle.sheet.specs.Judging.{judge, judgeRead, checkSheet, judgedOr, readOr, withSheet}
 use Rattle.scan.specs.declared.State.{State}
-use Rattle.scan.specs.declared.Scanned.{Scanned}
 use Rattle.scan.specs.Scan.{accepted, refused, scanOf, coldOf, scanSheet, coldScan, zeros}
-use Rattle.code.specs.declared.Record.{Record}
-use Rattle.translate.specs.declared.Cold.{Cold}
 use Rattle.translate.specs.Writing.{codeOf, Written, unwritten, writtenWith, translateInto, coldRecord, noRecord, coldRun}
 
 -- no answer is both

@@ -1,23 +1,23 @@
 -- The translation passes the check of code.
-use mathlib.Core.Path.{_≡_, refl, sym, ap, _∙_}
-use mathlib.Core.Bool.{Bool, true, false, not, _&&_, _||_, cond}
+use mathlib.Core.Path.{_≡_, refl, ap, _∙_}
+use mathlib.Core.Bool.{Bool, true, false, _||_}
 use mathlib.Core.List.{List, [], _∷_, _++_, append-assoc, map}
 use Prim.Native.Nat.{ℕ, zero, suc, _+_, _-_, _*_, _%_, _≤_, _<_}
 use native.Mathlib.Omega.{arith}
-use native.Mathlib.Nat.{add-zero, add-suc, suc-add, zero-add}
+use native.Mathlib.Nat.{add-zero, suc-add, zero-add}
 use borrow.Author.Tests.{le-ltb, lt-ltb, lt-leb, ne-eqb}
-use lib.Dec.{leb, ltb, eqb}
+use lib.Dec.{ltb}
 use lib.ListN.{length, length-append, getD, length-map}
 use lib.Seq.{getD-append-add}
 use Rattle.answer.specs.declared.Found.{Found}
-use Rattle.answer.specs.declared.Found.the-variants.{At, Nothing}
+use Rattle.answer.specs.declared.Found.the-variants.{Nothing}
 use Rattle.answer.specs.declared.Checked.the-variants.{Accepted}
 use Rattle.condition.specs.Cond.{Cond, inp, neg, conj, disj, depth, wordCount}
 use Rattle.reader.specs.Sheet.{Transition, Sheet}
 use Rattle.rules.specs.Rules.{InputsBelow, Fields, Rules}
 use Rattle.scan.proofs.AllLaws.{All}
-use Rattle.code.specs.Word.{Word, END, LDS, LDI, NOT, ANDP, ORP, PAR, ANDT, R, S, RA, SA, JMPC, JMP, TRES, operand, wordNo, decode, bytesOf, toBytes, words, codeNo}
-use Rattle.code.specs.Check.{endFault, opens, strays, faulty, unknown, hereOr, firstFault, depthAt, landsOpen, firstLanding, checkCode}
+use Rattle.code.specs.Word.{Word, END, LDI, NOT, ANDP, ORP, PAR, ANDT, R, S, JMPC, JMP, TRES, operand, wordNo, bytesOf, toBytes, words, codeNo}
+use Rattle.code.specs.Check.{endFault, opens, strays, faulty, hereOr, firstFault, depthAt, landsOpen, firstLanding, checkCode}
 use Rattle.translate.specs.Translation.{condCode, waitCode, block, blocks, sort, waitCount, blockLen, blocksLen, rowCode, stateBlocks, stateAt, endAt, translate}
 use Rattle.translate.specs.Writing.{codeOf}
 use Rattle.translate.proofs.CodeLaws.{Fit, decode-is, unknown-not, words-to, decode-map, bytes-append, bytes-length}

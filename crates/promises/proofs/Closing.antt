@@ -1,5 +1,5 @@
 -- The promises about bytes, closed with what crate rules proves of an accepted sheet. Assumes nothing.
-use mathlib.Core.Path.{_≡_, refl, sym, ap, _∙_}
+use mathlib.Core.Path.{_≡_, sym, ap, _∙_}
 use mathlib.Core.List.{List}
 use Prim.Native.Nat.{ℕ, _+_, _*_, _-_, _≤_, _<_}
 use lib.ListN.{length}
@@ -10,7 +10,6 @@ use Rattle.reader.specs.Reading.{readSheet}
 use Rattle.rules.proofs.Acceptance.{accepted-rules}
 use Rattle.rules.proofs.Counting.{homes-few, pairs-few, weighed}
 use Rattle.sheet.specs.Judging.{checkSheet}
-use Rattle.scan.specs.declared.State.{State}
 use Rattle.scan.specs.declared.Scanned.{Scanned}
 use Rattle.scan.specs.Scan.{scanOf, scanSheet}
 use Rattle.code.specs.Run.{runCode}

@@ -9,7 +9,6 @@ use native.Mathlib.Nat.{zero-add, add-zero, add-suc, suc-add}
 use borrow.Author.Tests.{eqb-true, eq-eqb, ltb-true, lt-ltb}
 use lib.Dec.{eqb, ltb}
 use lib.ListN.{length, getD, length-map}
-use Rattle.answer.specs.declared.Refusal.{Refusal}
 use Rattle.answer.specs.declared.Refusal.the-variants as refuse
 use Rattle.answer.specs.declared.Checked.{Checked}
 use Rattle.answer.specs.declared.Checked.the-variants.{Accepted, Refused}

@@ -1,38 +1,35 @@
 -- Demand 3, for a sheet that keeps the rules.
 use mathlib.Core.Path.{_≡_, refl, sym, ap, _∙_}
 use mathlib.Core.Bool.{Bool, true, false, cond}
-use mathlib.Core.List.{List, [], _∷_, map}
-use Prim.Native.Nat.{ℕ, zero, suc, _+_, _^_, _≤_, _<_, min}
+use mathlib.Core.List.{List, [], _∷_}
+use Prim.Native.Nat.{ℕ, _+_, _^_, min}
 use native.Mathlib.Omega.{arith}
 use borrow.Author.Tests.{eq-eqb, ne-eqb, leb-true}
 use lib.Dec.{eqb, leb}
 use lib.ListN.{length}
-use Rattle.answer.specs.declared.Checked.{Checked}
-use Rattle.answer.specs.declared.Checked.the-variants.{Accepted, Refused}
+use Rattle.answer.specs.declared.Checked.the-variants.{Accepted}
 use Rattle.answer.specs.declared.Refusal.the-variants.{Room}
 use Rattle.bits.specs.Read.{ok}
 use Rattle.bits.specs.Word.{getBit}
 use Rattle.bits.proofs.WordLaws.{bit-pow}
 use Rattle.clock.specs.Onward.{onward}
-use Rattle.reader.specs.Sheet.{Transition, Sheet, transitionOf}
+use Rattle.reader.specs.Sheet.{Sheet, transitionOf}
 use Rattle.reader.specs.Reading.{readSheet}
 use Rattle.rules.specs.Rules.{Rules}
 use Rattle.sheet.specs.Judging.{checkSheet}
 use Rattle.scan.specs.declared.State.{State}
 use Rattle.scan.specs.declared.Scanned.{Scanned}
-use Rattle.scan.specs.Scan.{outputsOf, scanOf, coldOf, scanSheet, coldScan}
+use Rattle.scan.specs.Scan.{scanOf, coldOf}
 use Rattle.code.specs.declared.Record.{Record}
 use Rattle.code.specs.declared.Ran.{Ran}
-use Rattle.code.specs.Word.{Word, words, decode}
-use Rattle.code.specs.Machine.{Out, runScan}
-use Rattle.code.specs.Check.{checkCode}
+use Rattle.code.specs.Machine.{Out}
 use Rattle.code.specs.Run.{runCode}
 use Rattle.translate.specs.declared.Cold.{Cold}
 use Rattle.translate.specs.Translation.{translate}
-use Rattle.translate.specs.Writing.{codeOf, Written, unwritten, writtenWith, translateInto, coldRecord, coldRun}
+use Rattle.translate.specs.Writing.{codeOf, Written, unwritten, writtenWith, translateInto, coldRecord}
 use Rattle.translate.proofs.CodeLaws.{decode-map}
-use Rattle.promises.specs.Same.{embed, Good, executed}
-use Rattle.promises.specs.Moves.{CanFire, Moves, fires, stays}
+use Rattle.promises.specs.Same.{embed, Good}
+use Rattle.promises.specs.Moves.{Moves, fires, stays}
 use Rattle.promises.specs.Demand3.{Tick, refAfter, runAfter, sinceChange, codeIn, Follows}
 use Rattle.promises.proofs.AcceptedLaws.{accepted-refused, scan-is, cold-scan-is, cold-run-is, translate-is, written-code}
 use Rattle.promises.proofs.CheckProof.{fit, code-words, check-code}

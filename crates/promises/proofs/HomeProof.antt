@@ -1,17 +1,17 @@
 -- Activation off ends in state 0.
 use mathlib.Core.Path.{_≡_, refl, sym, ap, _∙_}
-use mathlib.Core.Logic.{_⊎_, inl, inr}
-use mathlib.Core.Bool.{Bool, true, false, not, _&&_}
+use mathlib.Core.Logic.{inl, inr}
+use mathlib.Core.Bool.{Bool, true, false}
 use Prim.Native.Nat.{ℕ, zero, suc, _≤_, _<_}
 use native.Mathlib.Omega.{arith}
 use Rattle.bits.specs.Word.{getBit}
 use Rattle.clock.specs.Onward.{onward}
-use Rattle.condition.specs.Cond.{Cond, inp, neg, conj, eval}
-use Rattle.reader.specs.Sheet.{Transition, Sheet, count, transitionOf}
+use Rattle.condition.specs.Cond.{Cond, eval}
+use Rattle.reader.specs.Sheet.{Transition, Sheet, transitionOf}
 use Rattle.rules.specs.Rules.{Gated, HomeForm, Rules}
 use Rattle.scan.specs.declared.State.{State}
 use Rattle.scan.specs.Scan.{scanOf}
-use Rattle.promises.specs.Moves.{Of, CanFire, Moves, fires, stays}
+use Rattle.promises.specs.Moves.{CanFire, Moves, fires, stays}
 use Rattle.promises.proofs.MovesProof.{same-rank, moves-scan}
 
 -- a gated condition fails

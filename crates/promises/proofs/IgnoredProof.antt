@@ -1,10 +1,9 @@
 -- Inputs k and above are ignored, for a sheet that keeps the rules.
 use mathlib.Core.Path.{_≡_, refl, sym, ap, _∙_}
-use mathlib.Core.Bool.{Bool, true, false, not, _&&_, _||_, cond}
+use mathlib.Core.Bool.{Bool, true, false, not, _&&_, cond}
 use mathlib.Core.List.{List, [], _∷_}
 use Prim.Native.Nat.{ℕ, zero, suc, _-_, _<_}
-use native.Mathlib.Omega.{arith}
-use lib.Dec.{eqb, leb, ltb}
+use lib.Dec.{leb}
 use Rattle.answer.specs.declared.Checked.the-variants.{Accepted}
 use Rattle.bits.specs.Read.{ok}
 use Rattle.bits.specs.Word.{getBit}
@@ -15,7 +14,7 @@ use Rattle.reader.specs.Reading.{readSheet}
 use Rattle.rules.specs.Rules.{InputsBelow, Fields, Rules}
 use Rattle.sheet.specs.Judging.{checkSheet}
 use Rattle.scan.specs.declared.State.{State}
-use Rattle.scan.specs.Scan.{can, best, better, after, scanOf, scanSheet, accepted, refused}
+use Rattle.scan.specs.Scan.{can, best, after, scanOf, scanSheet, refused}
 use Rattle.scan.proofs.AllLaws.{All}
 use Rattle.code.specs.declared.Record.{Record}
 use Rattle.code.specs.Word.{Word, END, LDS, LDI, NOT, ANDP, ORP, PAR, ANDT, R, S, RA, SA, JMPC, JMP, TRES}

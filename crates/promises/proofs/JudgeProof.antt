@@ -1,19 +1,18 @@
 -- Numbers 7 to 13: the judge answers the lowest fault of the sheet.
-use mathlib.Core.Path.{_≡_, refl, sym, ap, _∙_}
-use mathlib.Core.Logic.{_⊎_, inl, inr}
+use mathlib.Core.Path.{_≡_, refl, sym, ap}
+use mathlib.Core.Logic.{inl, inr}
 use mathlib.Core.Bool.{Bool, true, false, not, _&&_}
-use Prim.Native.Nat.{ℕ, zero, suc, _+_, _≤_, _<_}
+use Prim.Native.Nat.{ℕ, _≤_, _<_}
 use native.Mathlib.Omega.{arith}
 use borrow.Author.Tests.{eqb-true, eq-eqb, ltb-true, lt-ltb, not-true}
 use lib.Dec.{eqb, ltb}
-use lib.ListN.{getD}
 use Rattle.answer.specs.declared.Refusal.the-variants as refuse
 use Rattle.answer.specs.declared.Checked.{Checked}
 use Rattle.answer.specs.declared.Checked.the-variants.{Accepted}
 use Rattle.answer.specs.Lowest.{anyBelow, firstBelow, refuseAt}
 use Rattle.answer.proofs.Laws.{any-hit}
 use Rattle.condition.specs.Cond.{Cond, inp, neg, conj, disj, isOn, isOff, isGated}
-use Rattle.reader.specs.Sheet.{Transition, Sheet, count, transitionOf, rowOf}
+use Rattle.reader.specs.Sheet.{Transition, Sheet, count, transitionOf}
 use Rattle.rules.specs.Rules.{HomeForm, Gated}
 use Rattle.sheet.specs.Judging.{loops, samePair, sameRank, clashes, goesHome, lacksHome, lacksHomeForm, lacksGate, differs, wrongActivity, judge}
 use Rattle.promises.specs.Refusals.{Lowest, SheetFault, loop, pair, rank, no-home, home-form, gate, activity}

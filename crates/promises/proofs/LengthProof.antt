@@ -19,7 +19,7 @@ use Rattle.translate.specs.Translation.{waitCount, blockLen, blocksLen, transla
 use Rattle.translate.specs.Writing.{codeOf, translateInto}
 use Rattle.translate.proofs.LengthLaws.{code-length, code-bytes}
 use Rattle.translate.proofs.RoomLaws.{block-words}
-use Rattle.promises.specs.Length.{wordsOf, fitting}
+use Rattle.promises.specs.Length.{wordsOf, mostWords, fitting}
 use Rattle.promises.proofs.AcceptedLaws.{translate-is}
 use Rattle.promises.proofs.RoomLaws.{home-words}
 
@@ -57,14 +57,14 @@ module _ (a : Sheet) (rules : Rules a) where
         (λ i l home. unfold blockLen in omega (arith, home-words (transitionOf a i) (rules .home-form i l home)))
         (λ i l. unfold blockLen in omega (arith, block-words (transitionOf a i) (rules .fields i l .nodes)))
 
-    pub at-most : wordsOf a ≤ 6507
+    pub at-most : wordsOf a ≤ mostWords
     unfolding wordsOf weight
     at-most = go (leb (a .states) 11) refl
       where
         rows : a .states * (a .outputs + 2) ≤ a .states * 18
         rows = mul-le-mul-left (a .states) (omega (arith, rules .outputs .1))
 
-        go : (b : Bool) → leb (a .states) 11 ≡ b → wordsOf a ≤ 6507
+        go : (b : Bool) → leb (a .states) 11 ≡ b → wordsOf a ≤ mostWords
         go true e =
             let few : a .states ≤ 11 = leb-true (a .states) 11 e in
             let square : a .states * a .states ≤ 11 * a .states = mul-le-mul-right (a .states) few in

@@ -2,17 +2,16 @@
 use mathlib.Core.Path.{_≡_, refl, sym, ap, _∙_}
 use mathlib.Core.Logic.{_≢_}
 use mathlib.Core.Bool.{Bool, true, false, _&&_}
-use mathlib.Core.List.{List}
-use Prim.Native.Nat.{ℕ, _≤_, _<_}
+use Prim.Native.Nat.{ℕ, _≤_}
 use native.Mathlib.Omega.{arith}
 use borrow.Author.Tests.{eqb-true, eqb-false, eq-eqb, leb-true, le-leb, ltb-true, ltb-false}
 use lib.Dec.{eqb, leb, ltb}
 use Rattle.clock.specs.Onward.{onward}
 use Rattle.condition.specs.Cond.{eval}
-use Rattle.reader.specs.Sheet.{Transition, Sheet, count, transitionOf}
+use Rattle.reader.specs.Sheet.{Transition, Sheet, transitionOf}
 use Rattle.rules.specs.Rules.{Rules}
 use Rattle.scan.specs.declared.State.{State}
-use Rattle.scan.specs.Scan.{Choice, none, some, can, best, outputsOf, after, scanOf}
+use Rattle.scan.specs.Scan.{Choice, none, some, can, best, after, scanOf}
 use Rattle.scan.proofs.BestLaws.{Chosen, BestIs, best-is}
 use Rattle.promises.specs.Moves.{Of, CanFire, Moves, fires, stays}
 

@@ -1,10 +1,10 @@
 -- The words of the code of a sheet that keeps the rules: a first bound for all of it, and the block of a transition home.
 use mathlib.Core.Path.{_≡_, refl}
-use Prim.Native.Nat.{ℕ, _≤_}
+use Prim.Native.Nat.{_≤_}
 use Rattle.condition.specs.Cond.{nodes, wordCount}
 use Rattle.reader.specs.Sheet.{Transition, Sheet}
 use Rattle.rules.specs.Rules.{HomeForm, Rules}
-use Rattle.scan.proofs.AllLaws.{All, all-map}
+use Rattle.scan.proofs.AllLaws.{all-map}
 use Rattle.translate.specs.Translation.{blockLen, endAt}
 use Rattle.translate.proofs.RoomLaws as room
 use Rattle.promises.proofs.EachLaws.{all-fields}

@@ -1,5 +1,5 @@
 -- The machine on the code of a condition, of a block, of all blocks and of the states' blocks.
-use mathlib.Core.Path.{_≡_, refl, sym, ap, _∙_}
+use mathlib.Core.Path.{_≡_, refl, ap, _∙_}
 use mathlib.Core.Bool.{Bool, true, false, not, _&&_, _||_, cond}
 use mathlib.Core.List.{List, [], _∷_, _++_, append-assoc}
 use Prim.Native.Nat.{ℕ, zero, suc, _+_, _-_, _*_, _≤_, _<_}
@@ -14,7 +14,7 @@ use Rattle.reader.specs.Sheet.{Transition}
 use Rattle.scan.specs.Scan.{Choice, none, some}
 use Rattle.scan.proofs.ChoiceLaws.{first}
 use Rattle.code.specs.declared.Record.{Record}
-use Rattle.code.specs.Word.{Word, END, LDI, NOT, ANDP, ORP, PAR, ANDT, R, S, JMPC, JMP, TRES}
+use Rattle.code.specs.Word.{Word, END, NOT, ANDP, ORP, PAR, R, S, JMPC, JMP, TRES}
 use Rattle.code.specs.Machine.{Out, out, Frame, andF, orF, exec, flagTo, outTo, withOutputs, withClock}
 use Rattle.promises.specs.Same.{spent}
 use Rattle.translate.specs.Translation.{condCode, waitCode, block, blocks, waitCount, blockLen, blocksLen, rowCode, stateBlocks}

@@ -5,8 +5,7 @@ use mathlib.Core.List.{List, [], _∷_, _++_}
 use Prim.Native.Nat.{ℕ, suc, _+_, _-_, _*_, _^_, _≤_, _<_}
 use native.Mathlib.Omega.{arith}
 use native.Mathlib.Nat.{zero-add}
-use lib.Dec.{eqb}
-use lib.ListN.{length, getD}
+use lib.ListN.{length}
 use Rattle.bits.proofs.WordLaws.{bit-pow, clear-pow, set-zero, putAll, put-all, word-lt}
 use Rattle.clock.specs.Onward.{onward}
 use Rattle.reader.specs.Sheet.{Transition, Sheet, rowOf}

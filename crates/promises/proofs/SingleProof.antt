@@ -1,5 +1,5 @@
 -- Each contract has one outcome.
-use mathlib.Core.Path.{_≡_, refl, ap}
+use mathlib.Core.Path.{_≡_, refl}
 use Rattle.translate.specs.Writing.{Written, translateInto}
 use Rattle.promises.specs.Single.{One, SingleOutcome}
 

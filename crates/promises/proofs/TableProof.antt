@@ -1,6 +1,6 @@
 -- The table, by computing: the two-contact sheet is read and judged once, its code is checked once, and the scans are computed over the tree and the
 -- words.
-use mathlib.Core.Path.{_≡_, refl, ap, _∙_}
+use mathlib.Core.Path.{_≡_, refl, ap}
 use mathlib.Core.List.{List, [], _∷_, map}
 use Prim.Native.Nat.{ℕ, _<_}
 use native.Mathlib.Omega.{arith}
@@ -20,7 +20,6 @@ use Rattle.scan.specs.declared.State.{State}
 use Rattle.scan.specs.declared.Scanned.{Scanned}
 use Rattle.scan.specs.Scan.{can, best, outputsOf, after, scanOf, coldOf, scanSheet, coldScan}
 use Rattle.code.specs.declared.Record.{Record}
-use Rattle.code.specs.declared.Ran.{Ran}
 use Rattle.code.specs.Word.{codeNo, operand, wordNo, known, decode, bytesOf, toBytes, words}
 use Rattle.code.specs.Machine.{flagTo, outTo, exec, runScan}
 use Rattle.code.specs.Check.{endFault, opens, faulty, unknown, firstFault, depthAt, landsOpen, firstLanding, checkCode}

@@ -1,14 +1,13 @@
 -- Worthless programs fail: each at a sheet, a buffer and a scan.
 use mathlib.Core.Path.{_≡_, refl, sym, ap, _∙_}
-use mathlib.Core.Bool.{Bool, true, false}
+use mathlib.Core.Bool.{true}
 use mathlib.Core.List.{List, [], _∷_}
-use Prim.Native.Nat.{ℕ, _+_, _*_, _^_, _<_, _≤_}
+use Prim.Native.Nat.{ℕ, _*_, _^_}
 use native.Mathlib.Omega.{arith}
 use borrow.Author.Tests.{le-leb}
 use lib.Dec.{leb}
 use lib.ListN.{length, getD, take, replicate}
 use Rattle.answer.specs.declared.Refusal.the-variants.{Short, CodeEnd}
-use Rattle.answer.specs.declared.Checked.{Checked}
 use Rattle.answer.specs.declared.Checked.the-variants.{Accepted, Refused}
 use Rattle.answer.specs.Lowest.{anyBelow, firstBelow}
 use Rattle.bits.specs.Field.{fieldAt, numAt, bitAt}
@@ -22,18 +21,17 @@ use Rattle.sheet.specs.Table.{sheetM}
 use Rattle.scan.specs.declared.Scanned.{Scanned}
 use Rattle.scan.specs.Scan.{can, best, outputsOf, after, scanOf, coldOf, scanSheet, coldScan}
 use Rattle.code.specs.declared.Record.{Record}
-use Rattle.code.specs.declared.Ran.{Ran}
 use Rattle.code.specs.Word.{END, codeNo, operand, wordNo, known, decode, bytesOf, toBytes, words}
 use Rattle.code.specs.Machine.{exec, runScan}
 use Rattle.code.specs.Check.{endFault, opens, faulty, unknown, firstFault, depthAt, landsOpen, firstLanding, checkCode}
 use Rattle.code.specs.Run.{runCode}
 use Rattle.code.specs.Worked.{bytes, code11}
 use Rattle.translate.specs.declared.Translated.{Translated}
-use Rattle.translate.specs.Writing.{Written, codeOf, unwritten, writtenWith, translateInto, coldRecord, coldRun}
+use Rattle.translate.specs.Writing.{Written, codeOf, translateInto, coldRecord, coldRun}
 use Rattle.translate.proofs.LengthLaws.{code-bytes}
-use Rattle.promises.specs.Demand3.{Tick, Translator, Runner, refAfter, runAfter, sinceChange, codeIn, Follows, Demand3}
+use Rattle.promises.specs.Demand3.{Tick, Translator, Runner, refAfter, runAfter, sinceChange, codeIn, Demand3}
 use Rattle.promises.specs.Table.{twoContact, twoRows, twoArcs, twoSheet, scan, flag, state}
-use Rattle.promises.specs.Worthless.{ChecksSheets, ChecksCode, Translates, RefusesAll, AcceptsAll, WritesEnd, WritesNothing, HandsBack, RightAtFirst, Worthless}
+use Rattle.promises.specs.Worthless.{HandsBack, RightAtFirst, Worthless}
 use Rattle.promises.proofs.AcceptedLaws.{accepted-refused, translate-is}
 use Rattle.promises.proofs.TableProof.{two-read, two-accepted, two-checked, two-scan, cold-state, cold-flag, table}
 

@@ -21,6 +21,10 @@ use Rattle.translate.specs.Writing.{Written, codeOf, translateInto}
 unfoldable pub wordsOf : Sheet → ℕ
 wordsOf a = sumOver (λ t. 6 + wordCount (t .condition) + waitCount (t .wait)) (a .transitions) + (2 + a .states * (a .outputs + 2))
 
+-- "at most 6,507"
+abbrev pub mostWords : ℕ
+mostWords = 6507
+
 -- what the translator answers with and without room: "14 ROOM: the code needs more bytes than the buffer has", "bytes needed"
 abbrev pub fitting : List ℕ → ℕ → List ℕ → Written
 fitting buffer bytes code =
@@ -32,7 +36,7 @@ LengthRule =
     (s : List ℕ) → checkSheet s ≡ Accepted
     → (a : Sheet) × (end : ℕ) × (readSheet s ≡ ok a end)
     × (length (codeOf a) ≡ 4 * wordsOf a)
-    × (wordsOf a ≤ 6507)
+    × (wordsOf a ≤ mostWords)
     × ((buffer : List ℕ) → translateInto s buffer ≡ fitting buffer (4 * wordsOf a) (codeOf a))
 
 -- the bytes that s needs, by the rule

@@ -1,6 +1,6 @@
 -- One scan of the translated code against one scan of the sheet, with the number of words that the machine executes.
 use mathlib.Core.Path.{_≡_}
-use mathlib.Core.Bool.{Bool, true, false, cond}
+use mathlib.Core.Bool.{Bool, cond}
 use mathlib.Core.List.{List, [], _∷_}
 use Prim.Native.Nat.{ℕ, _+_, _^_, _<_}
 use Rattle.clock.specs.Onward.{onward}

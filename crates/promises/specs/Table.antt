@@ -15,10 +15,8 @@ use Rattle.reader.specs.Reading.{readSheet}
 use Rattle.sheet.specs.Judging.{checkSheet}
 use Rattle.sheet.specs.Table.{sheetM, Is}
 use Rattle.scan.specs.declared.State.{State}
-use Rattle.scan.specs.declared.Scanned.{Scanned}
 use Rattle.scan.specs.Scan.{scanSheet, coldScan}
 use Rattle.code.specs.declared.Record.{Record}
-use Rattle.code.specs.declared.Ran.{Ran}
 use Rattle.code.specs.Worked.{bytes, code11}
 use Rattle.code.specs.Run.{runCode}
 use Rattle.translate.specs.Translation.{translate}

@@ -3,7 +3,6 @@
 use mathlib.Core.Path.{_≡_}
 use mathlib.Core.List.{List, [], _∷_}
 use Prim.Native.Nat.{ℕ, _<_}
-use lib.ListN.{length}
 use Rattle.answer.specs.declared.Refusal.{Refusal}
 use Rattle.answer.specs.declared.Refusal.the-variants.{Room}
 use Rattle.answer.specs.declared.Checked.{Checked}
@@ -13,7 +12,7 @@ use Rattle.code.specs.declared.Record.{Record}
 use Rattle.code.specs.Word.{END, toBytes}
 use Rattle.code.specs.Check.{checkCode}
 use Rattle.code.specs.Run.{runCode}
-use Rattle.translate.specs.Writing.{Written, translateInto}
+use Rattle.translate.specs.Writing.{translateInto}
 use Rattle.promises.specs.Demand3.{Translator, Runner, codeIn, Demand3}
 use Rattle.promises.specs.Length.{LengthOf}
 
