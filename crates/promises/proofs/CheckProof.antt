@@ -20,7 +20,7 @@ use Rattle.code.specs.Word.{Word, END, LDI, NOT, ANDP, ORP, PAR, ANDT, R, S, JM
 use Rattle.code.specs.Check.{endFault, opens, strays, faulty, hereOr, firstFault, depthAt, landsOpen, firstLanding, checkCode}
 use Rattle.translate.specs.Translation.{condCode, waitCode, block, blocks, sort, waitCount, blockLen, blocksLen, rowCode, stateBlocks, stateAt, endAt, translate}
 use Rattle.translate.specs.Writing.{codeOf}
-use Rattle.translate.proofs.CodeLaws.{Fit, decode-is, unknown-not, words-to, decode-map, bytes-append, bytes-length}
+use Rattle.code.proofs.WordLaws.{Fit, decode-is, unknown-not, words-to, decode-map, bytes-append, bytes-length}
 use Rattle.translate.proofs.LengthLaws.{cond-length, wait-length, blocks-length, AllLen, all-rows, state-length, states-length, sort-blocksLen, code-end}
 use Rattle.translate.proofs.SortLaws.{all-sort}
 use Rattle.translate.proofs.RoomLaws.{state-words}

@@ -27,7 +27,7 @@ use Rattle.code.specs.Run.{runCode}
 use Rattle.translate.specs.declared.Cold.{Cold}
 use Rattle.translate.specs.Translation.{translate}
 use Rattle.translate.specs.Writing.{codeOf, Written, unwritten, writtenWith, translateInto, coldRecord}
-use Rattle.translate.proofs.CodeLaws.{decode-map}
+use Rattle.code.proofs.WordLaws.{decode-map}
 use Rattle.promises.specs.Same.{embed, Good}
 use Rattle.promises.specs.Moves.{Moves, fires, stays}
 use Rattle.promises.specs.Demand3.{Tick, refAfter, runAfter, sinceChange, codeIn, Follows}

@@ -22,7 +22,7 @@ use Rattle.code.specs.Machine.{Out, Frame, andF, orF, join, exec, flagTo, outTo
 use Rattle.code.specs.Run.{runCode}
 use Rattle.translate.specs.Translation.{translate}
 use Rattle.translate.specs.Writing.{codeOf}
-use Rattle.translate.proofs.CodeLaws.{decode-map}
+use Rattle.code.proofs.WordLaws.{decode-map}
 use Rattle.promises.specs.Ignored.{Agree}
 use Rattle.promises.proofs.AcceptedLaws.{with-sheet}
 use Rattle.promises.proofs.CheckProof.{fit, code-words, check-code}

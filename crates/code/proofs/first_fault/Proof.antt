@@ -44,7 +44,9 @@ operand-requires : tie.Need-operand-requires Inv-loop μ-loop
 operand-requires c κs = omega arith
 
 note-requires : tie.Need-note-requires Inv-loop μ-loop
-note-requires c κs = (omega arith, c .before .before .before .before .loop .inv .noted .size)
+note-requires c κs =
+    let m = c .before .before .before .before .loop .inv .noted in
+    (omega arith, m .size, m .above (c .before .before .before .before .loop .at) (omega arith) (omega arith))
 
 word-fault-requires : tie.Need-word-fault-requires Inv-loop μ-loop
 word-fault-requires c κs = search needs
