@@ -265,33 +265,49 @@ pub fn all_read(p: Play, fd: i32, sheet: &[u8], code: &[u8], page: &mut [u8]) ->
 // A bad line: its number, and what was expected.
 fn tell_bad_line(p: Play) -> u8 {
     let mut out = [0u8; 256];
-    let a = put(&mut out, 0, b"chz: trace, line ");
-    let b = text::put_number(&mut out, a, plus(p.lines, 1));
-    let c = put(&mut out, b, b": expected ");
     let line = p.line;
-    let d = trace::put_expected(&mut out, c, line, p.inputs);
-    let e = put(&mut out, d, b"\n");
-    text::write(libc::STDERR_FILENO, &out, e);
+    let a = put_named(&mut out, 0, b"chz: trace, line ", plus(p.lines, 1));
+    let b = put(&mut out, a, b": expected ");
+    let c = trace::put_expected(&mut out, b, line, p.inputs);
+    let d = put(&mut out, c, b"\n");
+    text::write(libc::STDERR_FILENO, &out, d);
     status::FAILED
+}
+
+fn put_named(out: &mut [u8], at: usize, name: &[u8], n: u64) -> usize {
+    let a = put(out, at, name);
+    text::put_number(out, a, n)
+}
+
+fn put_code_record(out: &mut [u8], at: usize, record: Record) -> usize {
+    let a = put_named(out, at, b"chz: code: flag word ", record.flags as u64);
+    let b = put_named(out, a, b", output word ", record.outputs as u64);
+    let c = put_named(out, b, b", clock ", record.clock as u64);
+    put(out, c, b"\n")
+}
+
+fn put_reference(out: &mut [u8], at: usize, state: State) -> usize {
+    let a = put_named(out, at, b"chz: reference: state ", state.state as u64);
+    let b = put_named(out, a, b", output word ", state.outputs as u64);
+    let c = put_named(out, b, b", clock ", state.clock as u64);
+    put(out, c, b"\n")
 }
 
 // That the two differ is proved impossible: whoever reads this has a broken machine or a broken build.
 fn tell_difference(p: Play) -> u8 {
-    let mut out = [0u8; 512];
-    let a = put(&mut out, 0, b"chz: CODE AND REFERENCE DIFFER at scan ");
-    let b = text::put_number(&mut out, a, p.scans);
-    let c = put(&mut out, b, b". Use neither. Reference:");
     let record = p.record;
     let state = p.state;
-    let d = put_state(&mut out, c, state, p.outputs as usize);
-    let e = put(&mut out, d, b"; code: flag word ");
-    let f = text::put_number(&mut out, e, record.flags as u64);
-    let g = put(&mut out, f, b", output word ");
-    let h = text::put_number(&mut out, g, record.outputs as u64);
-    let i = put(&mut out, h, b", clock ");
-    let j = text::put_number(&mut out, i, record.clock as u64);
-    let k = put(&mut out, j, b"\n");
-    text::write(libc::STDERR_FILENO, &out, k);
+    let mut out = [0u8; 512];
+    let a = put_named(
+        &mut out,
+        0,
+        b"chz: CODE AND REFERENCE DIFFER, use neither: scan ",
+        p.scans,
+    );
+    let b = put(&mut out, a, b"\n");
+    let c = put_code_record(&mut out, b, record);
+    let d = put_reference(&mut out, c, state);
+    text::write(libc::STDERR_FILENO, &out, d);
     status::FAILED
 }
 

@@ -8,6 +8,18 @@ pub fn put_byte(out: &mut [u8], at: usize, b: u8) -> usize {
     at
 }
 
+// The byte, where it is wanted.
+fn put_if(out: &mut [u8], at: usize, b: u8, wanted: bool) -> usize {
+    if wanted {
+        return put_byte(out, at, b);
+    }
+    at
+}
+
+fn next(n: u32) -> u32 {
+    if n < 1000 { n + 1 } else { n }
+}
+
 pub fn put(out: &mut [u8], at: usize, text: &[u8]) -> usize {
     let mut to = at;
     let mut i: usize = 0;
@@ -25,6 +37,26 @@ fn put_blanks(out: &mut [u8], at: usize, size: usize, width: usize) -> usize {
     while i < width {
         to = put_byte(out, to, b' ');
         i += 1;
+    }
+    to
+}
+
+// The n-th of the texts, each of which ends with a bar.
+pub fn put_nth(out: &mut [u8], at: usize, texts: &[u8], n: u32) -> usize {
+    let mut to = at;
+    let mut passed: u32 = 0;
+    let mut i: usize = 0;
+    while i < texts.len() {
+        let b = texts[i];
+        i += 1;
+        if b == b'|' {
+            if passed == n {
+                return to;
+            }
+            passed = next(passed);
+        } else {
+            to = put_if(out, to, b, passed == n);
+        }
     }
     to
 }

@@ -2,6 +2,8 @@
 // It is read a byte at a time, so that a line may have any length and nothing is held.
 use crate::text::put;
 use crate::text::put_count;
+use crate::text::put_nth;
+use crate::text::put_number;
 
 // How far a line was read.
 const START: u8 = 0;
@@ -158,30 +160,33 @@ pub fn take(line: Line, b: u8, k: u32) -> Line {
     take_mark(line, b, k)
 }
 
+// What was expected of the bits.
+fn put_expected_bits(out: &mut [u8], at: usize, line: Line, k: u32) -> usize {
+    let a = put_count(out, at, k as u64, b"input bit");
+    if line.fault == FEW_BITS {
+        let b = put(out, a, b", found ");
+        return put_number(out, b, line.count as u64);
+    }
+    if line.fault == MANY_BITS {
+        return put(out, a, b", found more");
+    }
+    put(
+        out,
+        a,
+        b", each 0 or 1, and then the elapsed ms, as in '110 99'",
+    )
+}
+
 // What was expected of a line at fault.
 pub fn put_expected(out: &mut [u8], at: usize, line: Line, k: u32) -> usize {
     let fault = line.fault;
-    match fault {
-        NOT_A_BIT => {
-            let a = put_count(out, at, k as u64, b"input bit");
-            put(out, a, b", each 0 or 1, and then the ms, as in '110 99'")
-        }
-        FEW_BITS => {
-            let a = put_count(out, at, k as u64, b"input bit");
-            let b = put(out, a, b", found ");
-            put_count(out, b, line.count as u64, b"bit")
-        }
-        MANY_BITS => {
-            let a = put_count(out, at, k as u64, b"input bit");
-            put(out, a, b" and then a blank, found one more")
-        }
-        NO_MS => put(
-            out,
-            at,
-            b"the elapsed ms after the input bits, as in '110 99'",
-        ),
-        NOT_MS => put(out, at, b"the elapsed ms in digits, as in '110 99'"),
-        LONG_MS => put(out, at, b"at most 4294967295 ms"),
-        _ => put(out, at, b"the line's end after the ms, or a comment with #"),
+    if fault <= MANY_BITS {
+        return put_expected_bits(out, at, line, k);
     }
+    put_nth(
+        out,
+        at,
+        b"||||the elapsed ms after the input bits, as in '110 99'|the elapsed ms in digits, as in '110 99'|at most 4294967295 ms|the line's end after the ms, or a comment with #|",
+        fault as u32,
+    )
 }

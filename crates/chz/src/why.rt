@@ -1,229 +1,128 @@
 // What a refusal says to a person: the paper's number, its name and place, and a sentence on where to look.
 use crate::text::put;
+use crate::text::put_nth;
 use crate::text::put_number;
 use answer::Checked;
 
 // What kind of place a number has.
-enum Place {
-    Bit,
-    Transition,
-    State,
-    Word,
-    Bytes,
-}
+const BIT: u32 = 0;
 
-fn place_kind(number: u32) -> Place {
+const TRANSITION: u32 = 1;
+
+const STATE: u32 = 2;
+
+const WORD: u32 = 3;
+
+const BYTES: u32 = 4;
+
+fn place_kind(number: u32) -> u32 {
     match number {
-        1 => Place::Bit,
-        2 => Place::Bit,
-        3 => Place::Bit,
-        4 => Place::Bit,
-        5 => Place::Bit,
-        6 => Place::Bit,
-        10 => Place::State,
-        13 => Place::State,
-        14 => Place::Bytes,
-        15 => Place::Word,
-        16 => Place::Word,
-        17 => Place::Word,
-        18 => Place::State,
-        _ => Place::Transition,
+        1 => BIT,
+        2 => BIT,
+        3 => BIT,
+        4 => BIT,
+        5 => BIT,
+        6 => BIT,
+        10 => STATE,
+        13 => STATE,
+        14 => BYTES,
+        15 => WORD,
+        16 => WORD,
+        17 => WORD,
+        18 => STATE,
+        _ => TRANSITION,
     }
 }
 
 fn put_name(out: &mut [u8], at: usize, number: u32) -> usize {
-    match number {
-        1 => put(out, at, b"SHORT"),
-        2 => put(out, at, b"ONE-STATE"),
-        3 => put(out, at, b"STATE-NO"),
-        4 => put(out, at, b"INPUT-NO"),
-        5 => put(out, at, b"BIG"),
-        6 => put(out, at, b"TAIL"),
-        7 => put(out, at, b"LOOP"),
-        8 => put(out, at, b"PAIR"),
-        9 => put(out, at, b"RANK"),
-        10 => put(out, at, b"NO-HOME"),
-        11 => put(out, at, b"HOME-FORM"),
-        12 => put(out, at, b"GATE"),
-        13 => put(out, at, b"ACTIVITY"),
-        14 => put(out, at, b"ROOM"),
-        15 => put(out, at, b"CODE-END"),
-        16 => put(out, at, b"WORD"),
-        17 => put(out, at, b"LANDING"),
-        _ => put(out, at, b"NO-STATE"),
-    }
+    put_nth(
+        out,
+        at,
+        b"accepted|SHORT|ONE-STATE|STATE-NO|INPUT-NO|BIG|TAIL|LOOP|PAIR|RANK|NO-HOME|HOME-FORM|GATE|ACTIVITY|ROOM|CODE-END|WORD|LANDING|NO-STATE|",
+        number,
+    )
 }
 
-fn put_place(out: &mut [u8], at: usize, number: u32, place: u64) -> usize {
-    let kind = place_kind(number);
-    match kind {
-        Place::Bit => {
-            let to = put(out, at, b" at bit ");
-            put_number(out, to, place)
-        }
-        Place::Transition => {
-            let to = put(out, at, b" at transition ");
-            put_number(out, to, place)
-        }
-        Place::State => {
-            let to = put(out, at, b" at state ");
-            put_number(out, to, place)
-        }
-        Place::Word => {
-            let to = put(out, at, b" at word ");
-            put_number(out, to, place)
-        }
-        Place::Bytes => {
-            let a = put(out, at, b", ");
-            let b = put_number(out, a, place);
-            put(out, b, b" bytes needed")
-        }
+fn put_kind(out: &mut [u8], at: usize, kind: u32) -> usize {
+    put_nth(out, at, b"bit |transition |state |word |bytes |", kind)
+}
+
+fn put_place(out: &mut [u8], at: usize, kind: u32, place: u64) -> usize {
+    if kind == BYTES {
+        let a = put(out, at, b", ");
+        let b = put_number(out, a, place);
+        return put(out, b, b" bytes needed\n");
     }
+    let a = put(out, at, b" at ");
+    let b = put_kind(out, a, kind);
+    let c = put_number(out, b, place);
+    put(out, c, b"\n")
 }
 
 // What is wrong: 1 to 9.
-fn put_fault(out: &mut [u8], at: usize, number: u32) -> usize {
-    match number {
-        1 => put(
-            out,
-            at,
-            b"The sheet ends before the field that begins here is whole",
-        ),
-        2 => put(
-            out,
-            at,
-            b"The header gives one state, and a sheet has at least two",
-        ),
-        3 => put(
-            out,
-            at,
-            b"A transition names a state that the sheet does not have",
-        ),
-        4 => put(
-            out,
-            at,
-            b"A condition names an input that the sheet does not have",
-        ),
-        5 => put(
-            out,
-            at,
-            b"A condition has more than 31 nodes or is more than 8 deep from here on",
-        ),
-        6 => put(
-            out,
-            at,
-            b"Only zero bits up to the byte may follow the last condition, and more follows here",
-        ),
-        7 => put(
-            out,
-            at,
-            b"Its source and its destination are the same state",
-        ),
-        8 => put(
-            out,
-            at,
-            b"An earlier transition has the same source and destination",
-        ),
-        9 => put(
-            out,
-            at,
-            b"An earlier transition with the same source has the same priority",
-        ),
-        _ => put_later_fault(out, at, number),
-    }
+fn put_early_fault(out: &mut [u8], at: usize, number: u32) -> usize {
+    put_nth(
+        out,
+        at,
+        b"|The sheet ends before the field that begins here is whole|The header gives one state, and a sheet has at least two|A transition names a state that the sheet does not have|A condition names an input that the sheet does not have|From here on a condition has more than 31 nodes or is more than 8 deep|Only zero bits up to the byte may follow the last condition, and more follows here|Its source and its destination are the same state|An earlier transition has the same source and destination|An earlier transition with the same source has the same priority|",
+        number,
+    )
 }
 
-// What is wrong: 10 to 18.
-fn put_later_fault(out: &mut [u8], at: usize, number: u32) -> usize {
-    match number {
-        10 => put(
-            out,
-            at,
-            b"It is not state 0 and has no transition to state 0",
-        ),
-        11 => put(
-            out,
-            at,
-            b"It leads to state 0 and needs priority 0, wait 0 and the condition NOT input 0",
-        ),
-        12 => put(
-            out,
-            at,
-            b"It leaves state 0, so its condition is to be input 0 or an AND whose first operand is input 0",
-        ),
-        13 => put(
-            out,
-            at,
-            b"Output 0 is to be true in state 0 and false in every other state",
-        ),
-        14 => put(out, at, b"The code needs more bytes than the buffer has"),
-        15 => put(
-            out,
-            at,
-            b"Code has 4 to 32768 bytes, a multiple of 4, and ends with the word END",
-        ),
-        16 => put(
-            out,
-            at,
-            b"The word is unknown, or its operand or its parentheses are not allowed there",
-        ),
-        17 => put(
-            out,
-            at,
-            b"A parenthesis is open just before the word that this jump goes to",
-        ),
-        _ => put(
-            out,
-            at,
-            b"The record names a state that the sheet does not have",
-        ),
+// What is wrong: 10 to 18, counted from 0.
+fn put_late_fault(out: &mut [u8], at: usize, after: u32) -> usize {
+    put_nth(
+        out,
+        at,
+        b"It has no transition to state 0, and every state but 0 needs one|It leads to state 0, so it needs priority 0, wait 0 and the condition NOT input 0|It leaves state 0, so its condition must be input 0, or an AND whose first operand is input 0|Output 0 must be true in state 0 and false in every other state|The code needs more bytes than the buffer has|Code has 4 to 32768 bytes, a multiple of 4, and ends with the word END|The word is unknown, or its operand or its parentheses are not allowed|A parenthesis is open just before the word that this jump goes to|The record names a state that the sheet does not have|",
+        after,
+    )
+}
+
+fn put_fault(out: &mut [u8], at: usize, number: u32) -> usize {
+    if number < 10 {
+        return put_early_fault(out, at, number);
     }
+    put_late_fault(out, at, number - 10)
+}
+
+// Where to look for a bit.
+fn put_look_bit(out: &mut [u8], at: usize, place: u64) -> usize {
+    let a = put(out, at, b": look at byte ");
+    let b = put_number(out, a, place / 8);
+    let c = put(out, b, b", bit ");
+    let d = put_number(out, c, place % 8);
+    put(out, d, b" (both from 0, the top bit first).\n")
 }
 
 // Where to look.
-fn put_look(out: &mut [u8], at: usize, number: u32, place: u64) -> usize {
-    let kind = place_kind(number);
-    match kind {
-        Place::Bit => {
-            let a = put(out, at, b": look at byte ");
-            let b = put_number(out, a, place / 8);
-            let c = put(out, b, b", bit ");
-            let d = put_number(out, c, place % 8);
-            put(out, d, b" (both from 0, the top bit first).\n")
-        }
-        Place::Transition => {
-            let a = put(out, at, b": look at transition ");
-            let b = put_number(out, a, place);
-            put(out, b, b" (the sheet's first is 0).\n")
-        }
-        Place::State => {
-            let a = put(out, at, b": look at state ");
-            let b = put_number(out, a, place);
-            put(out, b, b" (the sheet's first is 0).\n")
-        }
-        Place::Word => {
-            let a = put(out, at, b": look at word ");
-            let b = put_number(out, a, place);
-            put(out, b, b" (the code's first is 0).\n")
-        }
-        Place::Bytes => {
-            let a = put(out, at, b": give it at least ");
-            let b = put_number(out, a, place);
-            put(out, b, b".\n")
-        }
+fn put_look(out: &mut [u8], at: usize, kind: u32, place: u64) -> usize {
+    if kind == BIT {
+        return put_look_bit(out, at, place);
     }
+    if kind == BYTES {
+        return put(out, at, b".\n");
+    }
+    let a = put(out, at, b": look at ");
+    let b = put_kind(out, a, kind);
+    let c = put_number(out, b, place);
+    put(out, c, b" (the first is 0).\n")
+}
+
+// The first line of a refusal.
+fn put_answer(out: &mut [u8], at: usize, number: u32, place: u64) -> usize {
+    let a = put(out, at, b"refused: ");
+    let b = put_number(out, a, number as u64);
+    let c = put(out, b, b" ");
+    let d = put_name(out, c, number);
+    put_place(out, d, place_kind(number), place)
 }
 
 // Both lines of a refusal.
 pub fn put_refusal(out: &mut [u8], at: usize, verdict: Checked) -> usize {
     let number = answer::number_of(verdict);
     let place = answer::place_of(verdict) as u64;
-    let a = put(out, at, b"refused: ");
-    let b = put_number(out, a, number as u64);
-    let c = put(out, b, b" ");
-    let d = put_name(out, c, number);
-    let e = put_place(out, d, number, place);
-    let f = put(out, e, b"\n");
-    let g = put_fault(out, f, number);
-    put_look(out, g, number, place)
+    let a = put_answer(out, at, number, place);
+    let b = put_fault(out, a, number);
+    put_look(out, b, place_kind(number), place)
 }
