@@ -3,6 +3,8 @@ use crate::judge;
 use crate::say;
 use crate::tally;
 use crate::tally::Tally;
+ghost use Prim.Native.Nat.{_≤_};
+ghost use lib.ListN.{length};
 
 // The bytes of a file that fits, or none.
 pub fn load(name: &[u8], buf: &mut [u8]) -> usize {
@@ -17,7 +19,9 @@ pub fn load(name: &[u8], buf: &mut [u8]) -> usize {
 }
 
 // The bytes of the case at the start, 0 where it is not wholly there.
-fn size(s: &[u8]) -> usize {
+fn size(s: &[u8]) -> usize
+    ensures { λ r. ⌜ r ≤ length (now (s .entry)) ⌝ }
+{
     let given = judge::word(s, 40) as usize;
     let written = judge::word(s, 44) as usize;
     let all = 48 + given + written;
@@ -71,17 +75,15 @@ fn each(s: &[u8], count: u64, table: &mut [u32; 160]) -> Tally {
     let mut at: usize = 0;
     let mut i: u64 = 0;
     while i < count {
-        i += 1;
-        if s.len() < at {
-            return tally::counted(t, false);
-        }
         let rest = &s[at..];
         let n = size(rest);
         if n == 0 {
+            say::text(b"a case is not wholly there\n");
             return tally::counted(t, false);
         }
-        t = judged(rest, i, t, table);
+        i += 1;
         at += n;
+        t = judged(rest, i, t, table);
     }
     if at < s.len() {
         say::text(b"more follows the last case\n");

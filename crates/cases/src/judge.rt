@@ -9,10 +9,19 @@ ghost use Prim.Native.Nat.{_<_};
 // The byte that the buffer of a translation is filled with before the call.
 const FILL: u8 = 165;
 
+fn wide(b: u8) -> u32
+    ensures { λ r. ⌜ r < 256 ⌝ }
+{
+    b as u32
+}
+
 pub fn byte_at(s: &[u8], at: usize) -> u32
     ensures { λ r. ⌜ r < 256 ⌝ }
 {
-    if at < s.len() { s[at] as u32 } else { 0 }
+    if at < s.len() {
+        return wide(s[at]);
+    }
+    0
 }
 
 // The number at a field of two bytes.
@@ -26,12 +35,15 @@ fn half(s: &[u8], at: usize) -> u16
 pub fn word(s: &[u8], at: usize) -> u32
     requires { ⌜ at < 1000 ⌝ }
 {
-    (byte_at(s, at) * 256 + byte_at(s, at + 1)) * 65536 + byte_at(s, at + 2) * 256 + byte_at(s, at + 3)
+    (byte_at(s, at) * 256 + byte_at(s, at + 1)) * 65536
+        + byte_at(s, at + 2) * 256
+        + byte_at(s, at + 3)
 }
 
 // Whether the verdict has the number and the place of the case.
 fn verdict_agrees(fields: &[u8], verdict: Checked) -> bool {
-    (answer::number_of(verdict) == byte_at(fields, 1)) & (answer::place_of(verdict) as u64 == word(fields, 4) as u64)
+    (answer::number_of(verdict) == byte_at(fields, 1))
+        & (answer::place_of(verdict) as u64 == word(fields, 4) as u64)
 }
 
 // The state's number of a record given, which has a byte.
@@ -54,12 +66,16 @@ fn record_given(fields: &[u8]) -> Record {
 fn scan_agrees(fields: &[u8], s: Scanned) -> bool {
     let verdict = s.verdict;
     let r = s.record;
-    let record = (r.state as u32 == word(fields, 24)) & (r.outputs == half(fields, 22)) & (r.clock == word(fields, 28));
+    let record = (r.state as u32 == word(fields, 24))
+        & (r.outputs == half(fields, 22))
+        & (r.clock == word(fields, 28));
     record & verdict_agrees(fields, verdict)
 }
 
 fn run_agrees(fields: &[u8], verdict: Checked, r: Record) -> bool {
-    let record = (r.flags == word(fields, 24)) & (r.outputs == half(fields, 22)) & (r.clock == word(fields, 28));
+    let record = (r.flags == word(fields, 24))
+        & (r.outputs == half(fields, 22))
+        & (r.clock == word(fields, 28));
     record & verdict_agrees(fields, verdict)
 }
 
@@ -75,8 +91,8 @@ fn all_filled(s: &[u8]) -> bool {
     true
 }
 
-// Whether the buffer has the code, and after it is as it was.
-fn buffer_agrees(buffer: &[u8], written: &[u8]) -> bool {
+// Whether the bytes begin with the code, and after it are as they were.
+fn holds(buffer: &[u8], written: &[u8]) -> bool {
     let n = written.len();
     if buffer.len() < n {
         return false;
@@ -85,6 +101,10 @@ fn buffer_agrees(buffer: &[u8], written: &[u8]) -> bool {
         return false;
     }
     all_filled(&buffer[n..])
+}
+
+fn buffer_holds(buffer: &[u8; 32768], written: &[u8]) -> bool {
+    holds(buffer, written)
 }
 
 pub fn translation_agrees(fields: &[u8], sheet: &[u8], written: &[u8]) -> bool {
@@ -102,7 +122,7 @@ pub fn translation_agrees(fields: &[u8], sheet: &[u8], written: &[u8]) -> bool {
     if !verdict_agrees(fields, verdict) {
         return false;
     }
-    buffer_agrees(&buffer, written)
+    buffer_holds(&buffer, written)
 }
 
 fn cold_scan_agrees(fields: &[u8], sheet: &[u8]) -> bool {

@@ -1,16 +1,81 @@
 // The paper's worked cases, P1 to P14, and those that stand below them.
-use answer::Checked;
-use code::Ran;
-use code::Record;
 use crate::say;
 use crate::tally;
 use crate::tally::Tally;
+use answer::Checked;
+use code::Ran;
+use code::Record;
 use reader::How;
 use scan::Scanned;
 use scan::State;
 
 // P11: the code of M.
-const CODE_OF_M: [u8; 64] = [1, 0, 0, 1, 4, 0, 0, 0, 2, 0, 0, 0, 3, 0, 0, 0, 6, 0, 0, 0, 8, 0, 0, 1, 9, 0, 0, 0, 12, 0, 0, 9, 13, 0, 0, 15, 11, 0, 0, 0, 14, 0, 0, 0, 13, 0, 0, 15, 10, 0, 0, 0, 14, 0, 0, 0, 13, 0, 0, 15, 0, 0, 0, 0];
+const CODE_OF_M: [u8; 64] = [
+    1,
+    0,
+    0,
+    1,
+    4,
+    0,
+    0,
+    0,
+    2,
+    0,
+    0,
+    0,
+    3,
+    0,
+    0,
+    0,
+    6,
+    0,
+    0,
+    0,
+    8,
+    0,
+    0,
+    1,
+    9,
+    0,
+    0,
+    0,
+    12,
+    0,
+    0,
+    9,
+    13,
+    0,
+    0,
+    15,
+    11,
+    0,
+    0,
+    0,
+    14,
+    0,
+    0,
+    0,
+    13,
+    0,
+    0,
+    15,
+    10,
+    0,
+    0,
+    0,
+    14,
+    0,
+    0,
+    0,
+    13,
+    0,
+    0,
+    15,
+    0,
+    0,
+    0,
+    0,
+];
 
 // P12: the scans, and what each is to reach.
 const INPUTS: [u16; 8] = [1, 3, 3, 3, 7, 1, 7, 6];
@@ -90,7 +155,15 @@ fn reaches(s: Scanned, state: u8, clock: u32) -> bool {
 }
 
 // A scan of the reference on the two-contact sheet, from a state whose outputs are Ready alone, or activity alone.
-fn scan_reaches(sheet: &[u8], from: u8, clock: u32, inputs: u16, elapsed: u32, state: u8, after: u32) -> bool {
+fn scan_reaches(
+    sheet: &[u8],
+    from: u8,
+    clock: u32,
+    inputs: u16,
+    elapsed: u32,
+    state: u8,
+    after: u32,
+) -> bool {
     let outputs: u16 = if from == 0 { 1 } else { 2 };
     let given = State {
         state: from,
@@ -123,7 +196,15 @@ fn comes_to(r: Ran, flags: u32, clock: u32) -> bool {
 }
 
 // The same scan by the code.
-fn run_reaches(code: &[u8], from: u32, clock: u32, inputs: u16, elapsed: u32, flags: u32, after: u32) -> bool {
+fn run_reaches(
+    code: &[u8],
+    from: u32,
+    clock: u32,
+    inputs: u16,
+    elapsed: u32,
+    flags: u32,
+    after: u32,
+) -> bool {
     let outputs: u16 = if from == 1 { 1 } else { 2 };
     let given = Record {
         flags: from,
@@ -154,8 +235,16 @@ fn by_reference(t: Tally, sheet: &[u8]) -> Tally {
     let a = say::worked(t, b"P12, reference", scans(sheet));
     let b = say::worked(a, b"P13, reference", scan_reaches(sheet, 3, 99, 7, 1, 5, 0));
     let c = say::worked(b, b"P14, reference", scan_reaches(sheet, 3, 99, 7, 0, 8, 0));
-    let d = say::worked(c, b"from cold 111/10, reference", scan_reaches(sheet, 0, 0, 7, 10, 1, 0));
-    say::worked(d, b"in state 0 011/50, reference", scan_reaches(sheet, 0, 7, 6, 50, 0, 57))
+    let d = say::worked(
+        c,
+        b"from cold 111/10, reference",
+        scan_reaches(sheet, 0, 0, 7, 10, 1, 0),
+    );
+    say::worked(
+        d,
+        b"in state 0 011/50, reference",
+        scan_reaches(sheet, 0, 7, 6, 50, 0, 57),
+    )
 }
 
 // The same by the code.
@@ -163,8 +252,16 @@ fn by_code(t: Tally, sheet: &[u8], code: &[u8]) -> Tally {
     let a = say::worked(t, b"P12, code", runs(sheet, code));
     let b = say::worked(a, b"P13, code", run_reaches(code, 8, 99, 7, 1, 32, 0));
     let c = say::worked(b, b"P14, code", run_reaches(code, 8, 99, 7, 0, 256, 0));
-    let d = say::worked(c, b"from cold 111/10, code", run_reaches(code, 1, 0, 7, 10, 2, 0));
-    say::worked(d, b"in state 0 011/50, code", run_reaches(code, 1, 7, 6, 50, 1, 57))
+    let d = say::worked(
+        c,
+        b"from cold 111/10, code",
+        run_reaches(code, 1, 0, 7, 10, 2, 0),
+    );
+    say::worked(
+        d,
+        b"in state 0 011/50, code",
+        run_reaches(code, 1, 7, 6, 50, 1, 57),
+    )
 }
 
 // The two-contact sheet: 25 transitions, 1,319 bits, 165 bytes and 271 words of code.
@@ -172,7 +269,10 @@ fn has_its_sizes(sheet: &[u8], length: usize) -> bool {
     let d = reader::read_sheet(sheet);
     let how = d.how;
     match how {
-        How::Done(c) => (c.at == 1319) & (d.transitions == 25) & (sheet.len() == 165) & (length == 1084),
+        How::Done(c) => (c.at == 1319)
+            & (d.transitions == 25)
+            & (sheet.len() == 165)
+            & (length == 1084),
         How::Bad(_) => false,
     }
 }

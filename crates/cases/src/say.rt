@@ -44,12 +44,16 @@ pub fn differs(at: u64, c: usize) {
     text(b": DIFFERS\n");
 }
 
+fn wide(n: u32) -> u64 {
+    n as u64
+}
+
 // The numbers that a call answered, each with how often.
 fn answers(table: &[u32; 160], c: usize) {
-    let mut number_answered: usize = 0;
-    while number_answered < 19 {
-        answer(table, c, number_answered);
-        number_answered += 1;
+    let mut n: usize = 0;
+    while n < 19 {
+        answer(table, c, n);
+        n += 1;
     }
 }
 
@@ -60,14 +64,14 @@ fn answer(table: &[u32; 160], c: usize, n: usize) {
     if 18 < n {
         return;
     }
-    let count = table[c * 20 + n];
+    let count = wide(table[c * 20 + n]);
     if count == 0 {
         return;
     }
     text(b" ");
     number(n as u64);
     text(b":");
-    number(count as u64);
+    number(count);
 }
 
 // The table of answers, a line a call.
