@@ -48,10 +48,10 @@ pub extern "C" fn chz_cold_scan(
     ensures left { λ r. ⌜ StateLeft (coldScan (now (sheet .entry)) .«record») (now (state .exit)) (now (outputs .exit)) (now (clock .exit)) ⌝ }
 {
     let cold = scan::cold_scan(sheet);
-    let left = cold.record;
-    *state = left.state;
-    *outputs = left.outputs;
-    *clock = left.clock;
+    let begun = cold.record;
+    *state = begun.state;
+    *outputs = begun.outputs;
+    *clock = begun.clock;
     let verdict = cold.verdict;
     tell(verdict, place)
 }
@@ -76,10 +76,10 @@ pub extern "C" fn chz_scan(
         clock: *clock,
     };
     let scanned = scan::scan(sheet, given, inputs, elapsed);
-    let left = scanned.record;
-    *state = left.state;
-    *outputs = left.outputs;
-    *clock = left.clock;
+    let moved = scanned.record;
+    *state = moved.state;
+    *outputs = moved.outputs;
+    *clock = moved.clock;
     let verdict = scanned.verdict;
     tell(verdict, place)
 }
@@ -104,10 +104,10 @@ pub extern "C" fn chz_run(
         clock: *clock,
     };
     let ran = code::run(code, given, inputs, elapsed);
-    let left = ran.record;
-    *flags = left.flags;
-    *outputs = left.outputs;
-    *clock = left.clock;
+    let after = ran.record;
+    *flags = after.flags;
+    *outputs = after.outputs;
+    *clock = after.clock;
     let verdict = ran.verdict;
     tell(verdict, place)
 }
