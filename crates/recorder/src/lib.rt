@@ -11,7 +11,7 @@ ghost use Rattle.code.specs.Run.{runCode};
 ghost use Rattle.recorder.specs.Answer.{stateOf, recordOf, Told, StateLeft, RecordLeft};
 
 // The number, and the place behind its pointer: no place needs more than 32 bits.
-fn tell(verdict: Checked, place: &mut u32) -> u32
+fn answered(verdict: Checked, place: &mut u32) -> u32
     requires { ⌜ placeOf verdict ≤ 40000 ⌝ }
     ensures { λ r. ⌜ Told verdict r (now (place .exit)) ⌝ }
 {
@@ -24,7 +24,7 @@ fn tell(verdict: Checked, place: &mut u32) -> u32
 pub extern "C" fn chz_check_sheet(sheet: &[u8], place: &mut u32) -> u32
     ensures { λ r. ⌜ Told (checkSheet (now (sheet .entry))) r (now (place .exit)) ⌝ }
 {
-    tell(sheet::check_sheet(sheet), place)
+    answered(sheet::check_sheet(sheet), place)
 }
 
 // Judges code.
@@ -32,7 +32,7 @@ pub extern "C" fn chz_check_sheet(sheet: &[u8], place: &mut u32) -> u32
 pub extern "C" fn chz_check_code(code: &[u8], place: &mut u32) -> u32
     ensures { λ r. ⌜ Told (checkCode (now (code .entry))) r (now (place .exit)) ⌝ }
 {
-    tell(code::check_code(code), place)
+    answered(code::check_code(code), place)
 }
 
 // The reference's cold start; what the record held is not read.
@@ -53,7 +53,7 @@ pub extern "C" fn chz_cold_scan(
     *outputs = begun.outputs;
     *clock = begun.clock;
     let verdict = cold.verdict;
-    tell(verdict, place)
+    answered(verdict, place)
 }
 
 // One scan of the reference.
@@ -81,7 +81,7 @@ pub extern "C" fn chz_scan(
     *outputs = moved.outputs;
     *clock = moved.clock;
     let verdict = scanned.verdict;
-    tell(verdict, place)
+    answered(verdict, place)
 }
 
 // One scan of code.
@@ -109,5 +109,5 @@ pub extern "C" fn chz_run(
     *outputs = after.outputs;
     *clock = after.clock;
     let verdict = ran.verdict;
-    tell(verdict, place)
+    answered(verdict, place)
 }

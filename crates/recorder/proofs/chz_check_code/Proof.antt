@@ -14,12 +14,12 @@ use Rattle.recorder.proofs.chz_check_code.Tie as tie
 check-code-requires : tie.Need-check-code-requires
 check-code-requires c κs = search needs
 
-tell-requires : tie.Need-tell-requires
-tell-requires c κs =
+answered-requires : tie.Need-answered-requires
+answered-requires c κs =
     subst (λ (v : Checked). placeOf v ≤ 40000) (sym (c .before .check-code .ensures)) (omega (arith, place-fits (now (c .before .before .before .args .code))))
 
 returns : tie.Need-returns
-returns c = subst (λ (v : Checked). Told v (c .tell .result) (c .tell .last .1 .0)) (c .before .before .check-code .ensures) (c .tell .ensures)
+returns c = subst (λ (v : Checked). Told v (c .answered .result) (c .answered .last .1 .0)) (c .before .before .check-code .ensures) (c .answered .ensures)
 
 pub chz-check-code-spec : {M : Type 1} → statement M
-chz-check-code-spec = tie.close (tie.spec check-code-requires tell-requires returns)
+chz-check-code-spec = tie.close (tie.spec check-code-requires answered-requires returns)

@@ -14,12 +14,12 @@ use Rattle.recorder.proofs.chz_check_sheet.Tie as tie
 check-sheet-requires : tie.Need-check-sheet-requires
 check-sheet-requires c κs = search needs
 
-tell-requires : tie.Need-tell-requires
-tell-requires c κs =
+answered-requires : tie.Need-answered-requires
+answered-requires c κs =
     subst (λ (v : Checked). placeOf v ≤ 40000) (sym (c .before .check-sheet .ensures)) (omega (arith, place-fits (now (c .before .before .before .args .sheet))))
 
 returns : tie.Need-returns
-returns c = subst (λ (v : Checked). Told v (c .tell .result) (c .tell .last .1 .0)) (c .before .before .check-sheet .ensures) (c .tell .ensures)
+returns c = subst (λ (v : Checked). Told v (c .answered .result) (c .answered .last .1 .0)) (c .before .before .check-sheet .ensures) (c .answered .ensures)
 
 pub chz-check-sheet-spec : {M : Type 1} → statement M
-chz-check-sheet-spec = tie.close (tie.spec check-sheet-requires tell-requires returns)
+chz-check-sheet-spec = tie.close (tie.spec check-sheet-requires answered-requires returns)

@@ -13,18 +13,18 @@ use Rattle.recorder.proofs.chz_cold_scan.Tie as tie
 cold-scan-requires : tie.Need-cold-scan-requires
 cold-scan-requires c κs = search needs
 
-tell-requires : tie.Need-tell-requires
-tell-requires c κs =
+answered-requires : tie.Need-answered-requires
+answered-requires c κs =
     subst (λ (x : Scanned). placeOf (x .verdict) ≤ 40000) (sym (c .before .before .cold-scan .ensures)) (cold-place-fits (now (c .before .before .before .before .args .sheet)))
 
 returns : tie.Need-returns
 returns c =
     let e = c .before .before .before .cold-scan .ensures in
-    (subst (λ (x : Scanned). Told (x .verdict) (c .tell .result) (c .tell .last .1 .0)) e (c .tell .ensures), record {
+    (subst (λ (x : Scanned). Told (x .verdict) (c .answered .result) (c .answered .last .1 .0)) e (c .answered .ensures), record {
       state-is = ap (λ (x : Scanned). x .«record» .state) e;
       outputs-is = ap (λ (x : Scanned). x .«record» .outputs) e;
       clock-is = ap (λ (x : Scanned). x .«record» .clock) e;
     })
 
 pub chz-cold-scan-spec : {M : Type 1} → statement M
-chz-cold-scan-spec = tie.close (tie.spec cold-scan-requires tell-requires returns)
+chz-cold-scan-spec = tie.close (tie.spec cold-scan-requires answered-requires returns)

@@ -14,8 +14,8 @@ use Rattle.recorder.proofs.chz_run.Tie as tie
 run-requires : tie.Need-run-requires
 run-requires c κs = search needs
 
-tell-requires : tie.Need-tell-requires
-tell-requires c κs =
+answered-requires : tie.Need-answered-requires
+answered-requires c κs =
     let t = c .before .before .before .before .before .before .before .args in
     subst (λ (x : Ran). placeOf (x .verdict) ≤ 40000) (sym (c .before .before .run .ensures))
     (omega (arith, run-place-fits (now (t .code)) (recordOf (now (t .flags)) (now (t .outputs)) (now (t .clock))) (t .inputs) (t .elapsed)))
@@ -23,11 +23,11 @@ tell-requires c κs =
 returns : tie.Need-returns
 returns c =
     let e = c .before .before .before .run .ensures in
-    (subst (λ (x : Ran). Told (x .verdict) (c .tell .result) (c .tell .last .1 .0)) e (c .tell .ensures), record {
+    (subst (λ (x : Ran). Told (x .verdict) (c .answered .result) (c .answered .last .1 .0)) e (c .answered .ensures), record {
       flags-is = ap (λ (x : Ran). x .«record» .flags) e;
       outputs-is = ap (λ (x : Ran). x .«record» .outputs) e;
       clock-is = ap (λ (x : Ran). x .«record» .clock) e;
     })
 
 pub chz-run-spec : {M : Type 1} → statement M
-chz-run-spec = tie.close (tie.spec run-requires tell-requires returns)
+chz-run-spec = tie.close (tie.spec run-requires answered-requires returns)

@@ -14,8 +14,8 @@ use Rattle.recorder.proofs.chz_scan.Tie as tie
 scan-requires : tie.Need-scan-requires
 scan-requires c κs = search needs
 
-tell-requires : tie.Need-tell-requires
-tell-requires c κs =
+answered-requires : tie.Need-answered-requires
+answered-requires c κs =
     let t = c .before .before .before .before .before .before .before .args in
     let byte : now (t .state) < 256 = omega arith in
     subst (λ (x : Scanned). placeOf (x .verdict) ≤ 40000) (sym (c .before .before .scan .ensures))
@@ -24,11 +24,11 @@ tell-requires c κs =
 returns : tie.Need-returns
 returns c =
     let e = c .before .before .before .scan .ensures in
-    (subst (λ (x : Scanned). Told (x .verdict) (c .tell .result) (c .tell .last .1 .0)) e (c .tell .ensures), record {
+    (subst (λ (x : Scanned). Told (x .verdict) (c .answered .result) (c .answered .last .1 .0)) e (c .answered .ensures), record {
       state-is = ap (λ (x : Scanned). x .«record» .state) e;
       outputs-is = ap (λ (x : Scanned). x .«record» .outputs) e;
       clock-is = ap (λ (x : Scanned). x .«record» .clock) e;
     })
 
 pub chz-scan-spec : {M : Type 1} → statement M
-chz-scan-spec = tie.close (tie.spec scan-requires tell-requires returns)
+chz-scan-spec = tie.close (tie.spec scan-requires answered-requires returns)
