@@ -3,7 +3,7 @@ use mathlib.Core.Path.{_≡_, refl, ap, _∙_}
 use mathlib.Core.Logic.{_≢_}
 use mathlib.Core.Bool.{Bool, true, false}
 use mathlib.Core.List.{List}
-use Prim.Native.Nat.{ℕ, zero, suc, _+_, _*_, _/_, _%_, _≤_, _<_}
+use Prim.Native.Nat.{ℕ, zero, suc, _+_, _*_, _/_, _%_, _^_, _≤_, _<_}
 use native.Mathlib.Omega.{arith}
 use borrow.Author.Count.{below-more}
 use borrow.Author.Tests.{eqb-true, eqb-false}
@@ -11,6 +11,7 @@ use lib.Dec.{eqb}
 use lib.ListN.{length, getD, set, length-set, replicate, getD-replicate, length-replicate}
 use lib.Seq.{getD-set-same, getD-set-other}
 use Rattle.bits.specs.Word.{getBit, putBit}
+use Rattle.bits.proofs.WordLaws.{put-known, one-shl}
 use Rattle.code.specs.Held.{marked, noted}
 
 low : (w y : ℕ) → (w % 2 + 2 * y) % 2 ≡ w % 2
@@ -89,3 +90,7 @@ marks-on p marks at h m =
           (noted-same marks at (m .size) h (p at) (m .above at (omega arith) h));
       above = λ k l b. noted-other marks at (m .size) h (p at) k (λ e. omega arith) ∙ m .above k (omega arith) b;
     }
+
+-- a bit that is clear is put by a sum, as the code adds it
+pub clear-add : (w i : ℕ) → i < 32 → getBit w i ≡ false → w + 1 * 2 ^ i % 4294967296 ≡ putBit w i true
+clear-add w i h e = omega (arith, put-known w i true false e, one-shl i h)

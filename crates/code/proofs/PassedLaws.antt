@@ -97,8 +97,8 @@ pub record Passed (s : List ℕ) : Type 0 where
   pub sound : (k : ℕ) → k < length (words s) → faulty (length (words s)) k (depthAt 0 (map decode (words s)) k) (decode (getD (words s) k 0)) ≡ false
   pub lands : (k : ℕ) → k < length (words s) → landsOpen (map decode (words s)) (decode (getD (words s) k 0)) ≡ false
 
-pub passed : (s : List ℕ) → checkCode s ≡ Accepted → Passed s
-passed s h =
+pub accepted : (s : List ℕ) → checkCode s ≡ Accepted → Passed s
+accepted s h =
     let p = parts s h in
     record {
       ended = end-good s (p .ended);

@@ -8,8 +8,8 @@ ghost use lib.Dec.{ltb};
 ghost use mir.Val.{boolByte};
 ghost use Rattle.answer.specs.declared.Checked.the-variants.{Accepted};
 ghost use Rattle.answer.specs.declared.Found.the-variants.{Nothing};
-ghost use Rattle.bits.specs.Word.{putBit};
-ghost use Rattle.code.specs.Word.{Word, known, decode, words};
+ghost use Rattle.bits.specs.Word.{getBit, putBit};
+ghost use Rattle.code.specs.Word.{known, decode, words};
 ghost use Rattle.code.specs.Machine.{Frame, withClock, flagTo, outTo, exec};
 ghost use Rattle.code.specs.Check.{endFault, opens, faulty, unknown, firstFault, depthAt, landsOpen, firstLanding, checkCode};
 ghost use Rattle.code.specs.Run.{runCode};
@@ -126,14 +126,22 @@ fn opened(op: u8, d: usize) -> usize
     d
 }
 
-// Marks word `at` where a parenthesis is open before it.
+// The word with bit i made 1, where it is 0: a sum, with no test.
+fn add_bit(w: u32, i: u32) -> u32
+    requires { ⌜ (i < 32) × (getBit w i ≡ false) ⌝ }
+    ensures { λ r. ⌜ r ≡ putBit w i true ⌝ }
+{
+    w + (1 << i)
+}
+
+// Marks word `at`, which is not marked yet, where a parenthesis is open before it.
 fn note(marks: &mut [u32; 256], at: usize, inside: bool)
-    requires { ⌜ (at < 8192) × (length (now marks) ≡ 256) ⌝ }
+    requires { ⌜ (at < 8192) × (length (now marks) ≡ 256) × (marked (now marks) at ≡ false) ⌝ }
     ensures { λ r. ⌜ now (marks .exit) ≡ noted inside (now (marks .entry)) at ⌝ }
 {
     if inside {
         let i = at / 32;
-        marks[i] = bits::set_bit(marks[i], (at % 32) as u32);
+        marks[i] = add_bit(marks[i], (at % 32) as u32);
     }
 }
 
@@ -157,10 +165,10 @@ fn first_fault(code: &[u8], n: usize, marks: &mut [u32; 256]) -> Found
     while at < n {
         let op = code_byte(code, at);
         let arg = operand(code, at);
+        note(marks, at, 0 < d);
         if word_fault(n, at, d, op, arg) {
             return Found::At(at);
         }
-        note(marks, at, 0 < d);
         d = opened(op, d);
         at += 1;
     }

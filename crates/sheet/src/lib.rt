@@ -190,7 +190,7 @@ fn judge_forms(lines: [Line; 128], m: usize, rows: [u16; 32], n: usize) -> Check
 }
 
 // The numbers 7 to 13 of a sheet read to its end, the lowest first.
-pub fn judge_decoded(d: Decoded) -> Checked
+fn judge_decoded(d: Decoded) -> Checked
     requires { ⌜ (d .transitions ≤ 128) × (d .states ≤ 32) ⌝ }
     ensures { λ r. ⌜ ((s : List ℕ) (a : Sheet) → Copy s d a → r ≡ judge a) ⌝ }
 {

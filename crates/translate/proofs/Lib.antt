@@ -1,0 +1,12 @@
+pub mod LengthLaws
+pub mod SortLaws
+pub mod NextLaws
+pub mod RoomLaws
+pub mod WroteLaws
+pub mod ConditionLaws
+pub mod BlockLaws
+pub mod RowLaws
+pub mod StandLaws
+pub mod OrderLaws
+pub mod WholeLaws
+pub mod OpenedLaws

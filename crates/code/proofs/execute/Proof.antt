@@ -10,7 +10,7 @@ use Rattle.code.specs.Word.{known, decode, words}
 use Rattle.code.specs.Machine.{exec}
 use Rattle.code.specs.Held.{recOf}
 use Rattle.code.proofs.WordLaws.{named-code}
-use Rattle.code.proofs.PassedLaws.{passed}
+use Rattle.code.proofs.PassedLaws.{accepted}
 use Rattle.code.proofs.RunLaws.{Going, going-start, going-end, going-on}
 use Rattle.code.proofs.execute.Statement.{statement}
 use Rattle.code.proofs.execute.Tie as tie
@@ -33,7 +33,7 @@ went c =
     let l = c .before .before .before .before .loop in
     let op = c .before .before .before .code-byte .ensures in
     going-on (now (a .code)) (a .inputs) (exec (a .inputs) 0 (map decode (words (now (a .code)))) 0 (a .given) false [] 0) (l .m) (l .inv)
-    (passed (now (a .code)) (c .before .before .before .before .before .before .pre))
+    (accepted (now (a .code)) (c .before .before .before .before .before .before .pre))
     (λ z. c .before .before .if1 .left (op .1 ∙ z))
     (known (c .before .before .before .code-byte .result) (c .before .operand .result))
     (rw (op .0, c .before .operand .ensures .0) refl)
@@ -43,12 +43,12 @@ went c =
 loop-holds : tie.Need-loop-holds Inv-loop μ-loop
 loop-holds c =
     let a = c .before .args in
-    let p = passed (now (a .code)) (c .before .pre) in
+    let p = accepted (now (a .code)) (c .before .pre) in
     going-start (now (a .code)) (a .inputs) (a .given) (omega (arith, p .ended .some, p .ended .whole))
 
 code-byte-requires : tie.Need-code-byte-requires Inv-loop μ-loop
 code-byte-requires c κs =
-    let p = passed (now (c .before .before .args .code)) (c .before .before .pre) in
+    let p = accepted (now (c .before .before .args .code)) (c .before .before .pre) in
     omega (arith, c .loop .inv .inside, p .ended .whole)
 
 returns : tie.Need-returns Inv-loop μ-loop
@@ -61,7 +61,7 @@ returns c =
 
 operand-requires : tie.Need-operand-requires Inv-loop μ-loop
 operand-requires c κs =
-    let p = passed (now (c .before .before .before .before .args .code)) (c .before .before .before .before .pre) in
+    let p = accepted (now (c .before .before .before .before .args .code)) (c .before .before .before .before .pre) in
     omega (arith, c .before .before .loop .inv .inside, p .ended .whole)
 
 step-requires : tie.Need-step-requires Inv-loop μ-loop
@@ -69,7 +69,7 @@ unfolding decode
 step-requires c κs =
     let a = c .before .before .before .before .before .args in
     let l = c .before .before .before .loop in
-    let p = passed (now (a .code)) (c .before .before .before .before .before .pre) in
+    let p = accepted (now (a .code)) (c .before .before .before .before .before .pre) in
     let ws = words (now (a .code)) in
     let op = c .before .before .code-byte .ensures in (
       omega (arith, l .inv .inside, p .ended .whole, p .ended .few),

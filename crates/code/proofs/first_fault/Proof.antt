@@ -20,15 +20,16 @@ abbrev μ-loop : tie.MeasureT-loop
 
 -- what the test of the word says, in the terms of the definition
 tested : (c : tie.After-word-fault Inv-loop μ-loop) →
-    let w = getD (words (now (c .before .before .before .before .before .before .args .code))) (c .before .before .before .before .loop .at) 0 in
-    c .word-fault .result ≡
-    (unknown w || faulty (c .before .before .before .before .before .before .args .n) (c .before .before .before .before .loop .at)
-    (c .before .before .before .before .loop .d) (decode w))
+    let l = c .before .before .before .before .before .before .loop in
+    let a = c .before .before .before .before .before .before .before .before .args in
+    let w = getD (words (now (a .code))) (l .at) 0 in
+    c .word-fault .result ≡ (unknown w || faulty (a .n) (l .at) (l .d) (decode w))
 tested c =
-    let a = c .before .before .before .before .before .before .args in
-    let w = getD (words (now (a .code))) (c .before .before .before .before .loop .at) 0 in
-    let whole : c .before .before .code-byte .result * 16777216 + c .before .operand .result ≡ w =
-    omega (arith, c .before .before .code-byte .ensures .0, c .before .operand .ensures .0) in
+    let l = c .before .before .before .before .before .before .loop in
+    let a = c .before .before .before .before .before .before .before .before .args in
+    let op = c .before .before .before .before .code-byte in
+    let arg = c .before .before .before .operand in
+    let whole : op .result * 16777216 + arg .result ≡ getD (words (now (a .code))) (l .at) 0 = omega (arith, op .ensures .0, arg .ensures .0) in
     c .word-fault .ensures ∙ rw whole refl
 
 loop-holds : tie.Need-loop-holds Inv-loop μ-loop
@@ -42,19 +43,21 @@ code-byte-requires c κs = omega arith
 operand-requires : tie.Need-operand-requires Inv-loop μ-loop
 operand-requires c κs = omega arith
 
+note-requires : tie.Need-note-requires Inv-loop μ-loop
+note-requires c κs =
+    let m = c .before .before .before .before .loop .inv .noted in
+    (omega arith, m .size, m .above (c .before .before .before .before .loop .at) (omega arith) (omega arith))
+
 word-fault-requires : tie.Need-word-fault-requires Inv-loop μ-loop
 word-fault-requires c κs = search needs
 
 returns : tie.Need-returns Inv-loop μ-loop
 returns c =
-    let l = c .before .before .before .before .before .loop in
-    let a = c .before .before .before .before .before .before .before .args in (
+    let l = c .before .before .before .before .before .before .before .loop in
+    let a = c .before .before .before .before .before .before .before .before .before .args in (
       looking-hit (words (now (a .code))) (a .n) (l .marks) (l .at) (l .d) (omega arith) (l .inv) (omega arith) (sym (tested (c .before)) ∙ c .if1 .taken),
       λ e. absurd (let z : _≡_ {A = ℕ} 0 1 = cc in omega arith),
     )
-
-note-requires : tie.Need-note-requires Inv-loop μ-loop
-note-requires c κs = (omega arith, c .before .before .before .before .before .before .loop .inv .noted .size)
 
 opened-requires : tie.Need-opened-requires Inv-loop μ-loop
 opened-requires c κs = omega arith
@@ -74,7 +77,7 @@ loop-again c =
     let deep : c .opened .result ≡ opens (decode w) (l .d) =
     c .opened .ensures (w % 16777216) ∙ rw (c .before .before .before .before .before .before .code-byte .ensures .0) refl in
     looking-on (words (now (a .code))) (a .n) (l .marks) (l .at) (l .d) (omega arith) (l .inv) (omega arith) (omega arith)
-    (sym (tested (c .before .before .before .before)) ∙ c .before .before .before .if1 .left) deep (c .before .note .ensures)
+    (sym (tested (c .before .before)) ∙ c .before .if1 .left) deep (c .before .before .before .note .ensures)
 
 returns-2 : tie.Need-returns-2 Inv-loop μ-loop
 returns-2 c =
@@ -93,9 +96,9 @@ first-fault-spec =
     loop-holds
     code-byte-requires
     operand-requires
+    note-requires
     word-fault-requires
     returns
-    note-requires
     opened-requires
     add-at
     loop-less

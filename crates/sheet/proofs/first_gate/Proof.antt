@@ -27,7 +27,9 @@ array-copy-out-t : tie.Need-array-copy-out-t Inv-loop μ-loop
 array-copy-out-t c = omega arith
 
 returns : tie.Need-returns Inv-loop μ-loop
-returns c = sym (first-hit (λ j. gateLine (lineOf (c .before .before .before .before .before .before .before .args .t1) j)) _ _ (omega arith) (c .before .before .before .before .before .before .loop .inv) (c .if1 .taken))
+returns c =
+    let at = c .before .before .before .before .before .before in
+    sym (first-hit (λ j. gateLine (lineOf (at .before .args .t1) j)) _ _ (omega arith) (at .loop .inv) (c .if1 .taken))
 
 add-i : tie.Need-add-i Inv-loop μ-loop
 add-i c = omega arith
@@ -36,7 +38,9 @@ loop-less : tie.Need-loop-less Inv-loop μ-loop
 loop-less c = omega arith
 
 loop-again : tie.Need-loop-again Inv-loop μ-loop
-loop-again c = first-more (λ j. gateLine (lineOf (c .before .before .before .before .before .before .before .args .t1) j)) _ (c .before .before .before .before .before .before .loop .inv) (c .if1 .left)
+loop-again c =
+    let at = c .before .before .before .before .before .before in
+    first-more (λ j. gateLine (lineOf (at .before .args .t1) j)) _ (at .loop .inv) (c .if1 .left)
 
 returns-2 : tie.Need-returns-2 Inv-loop μ-loop
 returns-2 c = sym (search-end _ (c .before .before .args .m) (c .before .loop .i) (omega arith) (c .before .loop .inv))

@@ -45,7 +45,9 @@ loop-less : tie.Need-loop-less Inv-loop μ-loop Inv-pair μ-pair
 loop-less c = omega arith
 
 loop-again : tie.Need-loop-again Inv-loop μ-loop Inv-pair μ-pair
-loop-again c = apart-more pairLines (c .before .before .before .before .before .before .before .before .before .before .before .args .t1) _ _ (omega arith) (c .before .before .before .before .before .before .before .loop .inv) (c .if2 .left)
+loop-again c =
+    let at = c .before .before .before .before .before .before .before in
+    apart-more pairLines (at .before .before .before .before .args .t1) _ _ (omega arith) (at .loop .inv) (c .if2 .left)
 
 add-later : tie.Need-add-later Inv-loop μ-loop Inv-pair μ-pair
 add-later c = omega arith
@@ -60,7 +62,9 @@ returns : tie.Need-returns Inv-loop μ-loop Inv-pair μ-pair
 returns c = sym (clash-end pairLines _ _ _ (omega arith) (c .before .pair .inv))
 
 returns-2 : tie.Need-returns-2 Inv-loop μ-loop Inv-pair μ-pair
-returns-2 c = sym (clash-hit pairLines _ _ (c .before .before .before .before .before .before .before .loop .earlier) _ (omega arith) (omega arith) (c .before .before .before .before .before .before .before .before .before .before .pair .inv) (c .if2 .taken))
+returns-2 c =
+    let at = c .before .before .before .before .before .before .before in
+    sym (clash-hit pairLines _ _ (at .loop .earlier) _ (omega arith) (omega arith) (at .before .before .before .pair .inv) (c .if2 .taken))
 
 pub first-pair-spec : {M : Type 1} → statement M
 first-pair-spec =

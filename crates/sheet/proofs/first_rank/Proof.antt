@@ -45,7 +45,9 @@ loop-less : tie.Need-loop-less Inv-loop μ-loop Inv-rank μ-rank
 loop-less c = omega arith
 
 loop-again : tie.Need-loop-again Inv-loop μ-loop Inv-rank μ-rank
-loop-again c = apart-more rankLines (c .before .before .before .before .before .before .before .before .before .before .before .args .t1) _ _ (omega arith) (c .before .before .before .before .before .before .before .loop .inv) (c .if2 .left)
+loop-again c =
+    let at = c .before .before .before .before .before .before .before in
+    apart-more rankLines (at .before .before .before .before .args .t1) _ _ (omega arith) (at .loop .inv) (c .if2 .left)
 
 add-later : tie.Need-add-later Inv-loop μ-loop Inv-rank μ-rank
 add-later c = omega arith
@@ -60,7 +62,9 @@ returns : tie.Need-returns Inv-loop μ-loop Inv-rank μ-rank
 returns c = sym (clash-end rankLines _ _ _ (omega arith) (c .before .rank .inv))
 
 returns-2 : tie.Need-returns-2 Inv-loop μ-loop Inv-rank μ-rank
-returns-2 c = sym (clash-hit rankLines _ _ (c .before .before .before .before .before .before .before .loop .earlier) _ (omega arith) (omega arith) (c .before .before .before .before .before .before .before .before .before .before .rank .inv) (c .if2 .taken))
+returns-2 c =
+    let at = c .before .before .before .before .before .before .before in
+    sym (clash-hit rankLines _ _ (at .loop .earlier) _ (omega arith) (omega arith) (at .before .before .before .rank .inv) (c .if2 .taken))
 
 pub first-rank-spec : {M : Type 1} → statement M
 first-rank-spec =

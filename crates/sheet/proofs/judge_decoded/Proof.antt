@@ -1,8 +1,10 @@
 -- `sheet::judge_decoded` meets its contract. Assumes nothing.
-use mathlib.Core.Path.{sym, _∙_}
-use Rattle.sheet.specs.Lines.{judgeLines}
-use Rattle.sheet.proofs.CopyLaws.{judge-same}
 use borrow.Author.Needs.{needs}
+use mathlib.Core.Path.{_≡_, sym, _∙_}
+use Rattle.answer.specs.Lowest.{firstBelow}
+use Rattle.answer.specs.declared.Found.the-variants.{Nothing}
+use Rattle.sheet.specs.Lines.{lineOf, loopLine, pairLines, rankLines, firstClash, judgeLines}
+use Rattle.sheet.proofs.CopyLaws.{judge-same}
 use Rattle.sheet.proofs.judge_decoded.Statement.{statement}
 use Rattle.sheet.proofs.judge_decoded.Tie as tie
 
@@ -21,6 +23,9 @@ returns c s a k =
 enum-told : tie.Need-enum-told
 enum-told c = search needs
 
+no-loop : (c : tie.After-enum-told) → let d = c .before .before .before .before .args .d in firstBelow (λ i. loopLine (lineOf (d .lines) i)) (d .transitions) ≡ Nothing
+no-loop c = sym (c .before .before .first-loop .ensures) ∙ c .enum-told .given .1
+
 first-pair-requires : tie.Need-first-pair-requires
 first-pair-requires c κs = search needs
 
@@ -32,12 +37,15 @@ unfolding judgeLines
 returns-2 c s a k =
     rw (← judge-same s _ a k)
     (rw (
-      sym (c .before .before .before .before .before .before .first-loop .ensures) ∙ c .before .before .before .before .enum-told .given .1,
+      no-loop (c .before .before .before .before),
       sym (c .before .before .before .first-pair .ensures) ∙ c .before .pair .given .1,
     ))
 
 enum-told-2 : tie.Need-enum-told-2
 enum-told-2 c = search needs
+
+no-pair : (c : tie.After-enum-told2) → let d = c .before .before .before .before .before .before .before .args .d in firstClash pairLines (d .lines) (d .transitions) ≡ Nothing
+no-pair c = sym (c .before .before .first-pair .ensures) ∙ c .enum-told2 .given .1
 
 first-rank-requires : tie.Need-first-rank-requires
 first-rank-requires c κs = search needs
@@ -50,13 +58,16 @@ unfolding judgeLines
 returns-3 c s a k =
     rw (← judge-same s _ a k)
     (rw (
-      sym (c .before .before .before .before .before .before .before .before .before .first-loop .ensures) ∙ c .before .before .before .before .before .before .before .enum-told .given .1,
-      sym (c .before .before .before .before .before .before .first-pair .ensures) ∙ c .before .before .before .before .enum-told2 .given .1,
+      no-loop (c .before .before .before .before .before .before .before),
+      no-pair (c .before .before .before .before),
       sym (c .before .before .before .first-rank .ensures) ∙ c .before .rank .given .1,
     ))
 
 enum-told-3 : tie.Need-enum-told-3
 enum-told-3 c = search needs
+
+no-rank : (c : tie.After-enum-told3) → let d = c .before .before .before .before .before .before .before .before .before .before .args .d in firstClash rankLines (d .lines) (d .transitions) ≡ Nothing
+no-rank c = sym (c .before .before .first-rank .ensures) ∙ c .enum-told3 .given .1
 
 cast-judge-forms : tie.Need-cast-judge-forms
 cast-judge-forms c = search needs
@@ -70,9 +81,9 @@ returns-4 c s a k =
     rw (← judge-same s _ a k)
     (rw (
       c .judge-forms .ensures,
-      sym (c .before .before .before .before .before .before .before .before .before .before .before .first-loop .ensures) ∙ c .before .before .before .before .before .before .before .before .before .enum-told .given .1,
-      sym (c .before .before .before .before .before .before .before .before .first-pair .ensures) ∙ c .before .before .before .before .before .before .enum-told2 .given .1,
-      sym (c .before .before .before .before .before .first-rank .ensures) ∙ c .before .before .before .enum-told3 .given .1,
+      no-loop (c .before .before .before .before .before .before .before .before .before),
+      no-pair (c .before .before .before .before .before .before),
+      no-rank (c .before .before .before),
     ))
 
 pub judge-decoded-spec : {M : Type 1} → statement M
