@@ -38,7 +38,12 @@ pub extern "C" fn chz_check_code(code: &[u8], place: &mut u32) -> u32
 
 // Writes the code of a sheet.
 #[no_mangle]
-pub extern "C" fn chz_translate(sheet: &[u8], code: &mut [u8], length: &mut u32, place: &mut u32) -> u32
+pub extern "C" fn chz_translate(
+    sheet: &[u8],
+    code: &mut [u8],
+    length: &mut u32,
+    place: &mut u32,
+) -> u32
     ensures told { λ r. ⌜ Told (translateInto (now (sheet .entry)) (now (code .entry)) .answer .verdict) r (now (place .exit)) ⌝ }
     ensures left { λ r. ⌜ CodeLeft (translateInto (now (sheet .entry)) (now (code .entry))) (now (length .exit)) (now (code .exit)) ⌝ }
 {
