@@ -2,7 +2,6 @@
 use answer::Checked;
 use code::Record;
 use scan::State;
-ghost use mathlib.Core.Path.{_≡_};
 ghost use Prim.Native.Nat.{_≤_};
 ghost use Rattle.answer.specs.Number.{placeOf};
 ghost use Rattle.sheet.specs.Judging.{checkSheet};
@@ -10,7 +9,7 @@ ghost use Rattle.scan.specs.Scan.{scanSheet, coldScan};
 ghost use Rattle.code.specs.Check.{checkCode};
 ghost use Rattle.code.specs.Run.{runCode};
 ghost use Rattle.translate.specs.Writing.{translateInto, coldRun};
-ghost use Rattle.recorder.specs.Answer.{stateOf, recordOf, Told, StateLeft, RecordLeft};
+ghost use Rattle.recorder.specs.Answer.{stateOf, recordOf, Told, CodeLeft, StateLeft, RecordLeft};
 
 // The number, and the place behind its pointer: no place needs more than 32 bits.
 fn answered(verdict: Checked, place: &mut u32) -> u32
@@ -37,7 +36,7 @@ pub extern "C" fn chz_check_code(code: &[u8], place: &mut u32) -> u32
     answered(code::check_code(code), place)
 }
 
-// Writes the code of a sheet: refused, no byte of it; accepted, no byte after it.
+// Writes the code of a sheet.
 #[no_mangle]
 pub extern "C" fn chz_translate(
     sheet: &[u8],
@@ -46,7 +45,7 @@ pub extern "C" fn chz_translate(
     place: &mut u32,
 ) -> u32
     ensures told { λ r. ⌜ Told (translateInto (now (sheet .entry)) (now (code .entry)) .answer .verdict) r (now (place .exit)) ⌝ }
-    ensures left { λ r. ⌜ (now («length» .exit) ≡ translateInto (now (sheet .entry)) (now (code .entry)) .answer .length) × (now (code .exit) ≡ translateInto (now (sheet .entry)) (now (code .entry)) .buffer) ⌝ }
+    ensures left { λ r. ⌜ CodeLeft (translateInto (now (sheet .entry)) (now (code .entry))) (now (length .exit)) (now (code .exit)) ⌝ }
 {
     let translated = translate::translate(sheet, code);
     *length = translated.length as u32;
@@ -88,10 +87,10 @@ pub extern "C" fn chz_cold_run(
     ensures left { λ r. ⌜ RecordLeft (coldRun (now (sheet .entry)) .«record») (now (flags .exit)) (now (outputs .exit)) (now (clock .exit)) ⌝ }
 {
     let cold = translate::cold_run(sheet);
-    let begun = cold.record;
-    *flags = begun.flags;
-    *outputs = begun.outputs;
-    *clock = begun.clock;
+    let first = cold.record;
+    *flags = first.flags;
+    *outputs = first.outputs;
+    *clock = first.clock;
     let verdict = cold.verdict;
     answered(verdict, place)
 }
