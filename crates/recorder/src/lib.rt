@@ -36,7 +36,7 @@ pub extern "C" fn chz_check_code(code: &[u8], place: &mut u32) -> u32
     answered(code::check_code(code), place)
 }
 
-// Writes the code of a sheet: refused, no byte of it; accepted, no byte after it.
+// Writes the code of a sheet.
 #[no_mangle]
 pub extern "C" fn chz_translate(
     sheet: &[u8],
