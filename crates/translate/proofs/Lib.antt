@@ -1,0 +1,4 @@
+pub mod CodeLaws
+pub mod LengthLaws
+pub mod SortLaws
+pub mod NextLaws

@@ -1,0 +1,5 @@
+pub mod Word
+pub mod Machine
+pub mod Check
+pub mod Run
+pub mod Worked
