@@ -1,0 +1,17 @@
+pub mod Search
+pub mod Fits
+pub mod Judged
+pub mod BitNumbers
+pub mod Stands
+pub mod CondStands
+pub mod ListStands
+pub mod Steps
+pub mod TransitionStands
+pub mod HeadStands
+pub mod SheetStands
+pub mod ReadFits
+pub mod Packing
+pub mod Pigeons
+pub mod Counting
+pub mod Longest
+pub mod Acceptance
