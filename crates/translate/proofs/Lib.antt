@@ -2,3 +2,5 @@ pub mod CodeLaws
 pub mod LengthLaws
 pub mod SortLaws
 pub mod NextLaws
+pub mod WroteLaws
+pub mod ConditionLaws

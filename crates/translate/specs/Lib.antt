@@ -1,2 +1,3 @@
 pub mod Translation
 pub mod Writing
+pub mod Emitting
