@@ -4,3 +4,5 @@ pub mod SortLaws
 pub mod NextLaws
 pub mod WroteLaws
 pub mod ConditionLaws
+pub mod BlockLaws
+pub mod RowLaws
