@@ -6,3 +6,5 @@ pub mod WroteLaws
 pub mod ConditionLaws
 pub mod BlockLaws
 pub mod RowLaws
+pub mod StandLaws
+pub mod OrderLaws
