@@ -8,3 +8,5 @@ pub mod BlockLaws
 pub mod RowLaws
 pub mod StandLaws
 pub mod OrderLaws
+pub mod WholeLaws
+pub mod OpenedLaws
