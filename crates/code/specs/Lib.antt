@@ -2,4 +2,5 @@ pub mod Word
 pub mod Machine
 pub mod Check
 pub mod Run
+pub mod Held
 pub mod Worked

@@ -17,16 +17,17 @@ use Rattle.bits.specs.declared.Cursor.{Cursor}
 use Rattle.bits.specs.declared.Got.the-variants as got
 use Rattle.bits.proofs.FieldLaws.{field-here}
 use Rattle.bits.proofs.WordLaws.{bit-no}
-use Rattle.bits.proofs.ReadLaws.{ok-next, ok-is, ok-no, bind-ok, guard-ok, field-read, upto-next}
+use Rattle.bits.proofs.ReadLaws.{ok-next, ok-is, ok-no, bind-ok, guard-ok, field-read, upto-next, upto-length}
 use Rattle.condition.specs.Reading.{Counted, conditionAt}
 use Rattle.condition.proofs.Laws.{cond-went}
-use Rattle.reader.specs.Sheet.{Transition, noTransition}
-use Rattle.reader.specs.Reading.{readHeader, rowAt, transitionAt, endsAt}
-use Rattle.reader.specs.Decoding.{Names, namesAt, restAt, forgetHeader, forgetRow, forgetNames, noLine, LineIs, Holds, HoldsRows, HoldsLines}
+use Rattle.reader.specs.Sheet.{Transition, Sheet, count, noTransition}
+use Rattle.reader.specs.Reading.{readHeader, rowAt, transitionAt, endsAt, readSheet}
+use Rattle.reader.specs.Decoding.{Names, namesAt, restAt, forgetHeader, forgetRow, forgetNames, noLine, LineIs, Holds, HoldsRows, HoldsLines, Copy, Answers}
 use Rattle.reader.specs.declared.Header.{Header}
 use Rattle.reader.specs.declared.Line.{Line}
 use Rattle.reader.specs.declared.Rows.{Rows}
 use Rattle.reader.specs.declared.Lines.{Lines}
+use Rattle.reader.specs.declared.Decoded.{Decoded}
 use Rattle.reader.specs.declared.How.{How}
 use Rattle.reader.specs.declared.How.the-variants as how
 use Rattle.reader.specs.declared.HeadRead.the-variants as headread
@@ -240,3 +241,27 @@ rows-next s l at n h k e = omega (arith, upto-next (rowAt s l) 16 (λ a x b e. o
 
 pub transitions-next : (s : List ℕ) (n k at m : ℕ) {ts : List Transition} {b : ℕ} → m ≤ 128 → upto (transitionAt s n k) at m ≡ ok ts b → b ≤ at + 29056
 transitions-next s n k at m h e = omega (arith, upto-next (transitionAt s n k) 227 (λ a t b e. transition-next s n k a e) at m e)
+
+-- a sheet that was read, or refused
+pub answers-done : (s : List ℕ) (x : Ans Sheet) (d : Decoded) (c : Cursor) → Answers s x d → d .how ≡ how.Done c
+    → (a : Sheet) × (x ≡ ok a (c .at)) × Copy s d a
+answers-done s (ok a end) d c h e = (a, ap (λ (m : ℕ). ok a m) (cursor-is (done-is (sym (h .0) ∙ e))), h .1)
+answers-done s (no why) d c h e = done-bad (sym e ∙ h)
+
+pub answers-bad : (s : List ℕ) (x : Ans Sheet) (d : Decoded) (q : Refusal) → Answers s x d → d .how ≡ how.Bad q → x ≡ no q
+answers-bad s (ok a end) d q h e = done-bad (sym (h .0) ∙ e)
+answers-bad s (no why) d q h e = ap no (bad-is (sym h ∙ e))
+
+-- a sheet that was read has at most 32 states and 128 transitions
+pub read-sizes : (s : List ℕ) (a : Sheet) (end : ℕ) → readSheet s ≡ ok a end → (a .states ≤ 32) × (count a ≤ 128)
+unfolding readSheet
+read-sizes s a end e =
+    let x1 = bind-ok (readHeader s) _ e in
+    let h = header-fits s (x1 .2) in
+    let x2 = bind-ok (upto (rowAt s (x1 .0 .outputs)) (x1 .1) (x1 .0 .states)) _ (x1 .3) in
+    let x3 = bind-ok (upto (transitionAt s (x1 .0 .states) (x1 .0 .inputs)) (x2 .1) (x1 .0 .transitions)) _ (x2 .3) in
+    let g = guard-ok (endsAt s (x3 .1)) (refuse.Tail (x3 .1)) _ (x3 .3) in
+    let m = upto-length (transitionAt s (x1 .0 .states) (x1 .0 .inputs)) (x2 .1) (x1 .0 .transitions) (x3 .2) in
+    let p : x1 .0 .states ≡ a .states = ap (λ (x : Sheet). x .states) (ok-is (g .1)) in
+    let q : length (x3 .0) ≡ count a = ap count (ok-is (g .1)) in
+    (omega (arith, h .states .1), omega (arith, h .transitions .1))

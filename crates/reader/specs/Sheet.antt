@@ -1,7 +1,7 @@
 -- What a sheet says, as a tree.
-use Prim.Native.Nat.{ℕ}
+use Prim.Native.Nat.{ℕ, _+_}
 use mathlib.Core.Bool.{Bool}
-use mathlib.Core.List.{List, []}
+use mathlib.Core.List.{List, [], _∷_}
 use lib.ListN.{length, getD}
 use Rattle.condition.specs.Cond.{Cond, inp}
 
@@ -36,3 +36,8 @@ transitionOf a i = getD (a .transitions) i noTransition
 -- the outputs of state s
 abbrev pub rowOf : Sheet → ℕ → List Bool
 rowOf a s = getD (a .rows) s []
+
+-- the sum of a weight over transitions
+abbrev pub sumOver : (Transition → ℕ) → List Transition → ℕ
+sumOver weight [] = 0
+sumOver weight (t ∷ ts) = weight t + sumOver weight ts

@@ -9,14 +9,9 @@ use lib.ListN.{length, getD}
 use lib.Dec.{eqb}
 use borrow.Author.Tests.{eq-eqb, eqb-true}
 use Rattle.bits.specs.Word.{bitNo}
-use Rattle.reader.specs.Sheet.{Transition, Sheet, count, transitionOf, noTransition}
+use Rattle.reader.specs.Sheet.{Transition, Sheet, count, transitionOf, noTransition, sumOver}
 use Rattle.rules.specs.Rules.{Rules}
 use Rattle.rules.proofs.Pigeons.{countBelow, count-le, pigeons}
-
--- the weight of a list of transitions
-abbrev pub total : (Transition → ℕ) → List Transition → ℕ
-total f [] = 0
-total f (t ∷ ts) = f t + total f ts
 
 -- the weights by place
 abbrev sumBelow : (ℕ → ℕ) → ℕ → ℕ
@@ -27,9 +22,9 @@ sum-first : (g : ℕ → ℕ) (n : ℕ) → sumBelow g (suc n) ≡ g 0 + sumBelo
 sum-first g zero = omega arith
 sum-first g (suc n) = omega (arith, sum-first g n)
 
-total-sum : (f : Transition → ℕ) (ts : List Transition) → total f ts ≡ sumBelow (λ i. f (getD ts i noTransition)) (length ts)
-total-sum f [] = refl
-total-sum f (t ∷ ts) = omega (arith, total-sum f ts, sum-first (λ i. f (getD (t ∷ ts) i noTransition)) (length ts))
+sum-at : (f : Transition → ℕ) (ts : List Transition) → sumOver f ts ≡ sumBelow (λ i. f (getD ts i noTransition)) (length ts)
+sum-at f [] = refl
+sum-at f (t ∷ ts) = omega (arith, sum-at f ts, sum-first (λ i. f (getD (t ∷ ts) i noTransition)) (length ts))
 
 -- weights of at most w, and at most w - d where the test is passed
 sum-count : (g : ℕ → ℕ) (p : ℕ → Bool) (w d n : ℕ) → ((i : ℕ) → i < n → g i + bitNo (p i) * d ≤ w) → sumBelow g n + countBelow p n * d ≤ n * w
@@ -99,11 +94,11 @@ module _ (a : Sheet) (r : Rules a) where
   -- weights of at most h for a transition home and of at most w for any other
   pub weighed : (f : Transition → ℕ) (h w : ℕ) → h ≤ w → ((i : ℕ) → i < count a → transitionOf a i .destination ≡ 0 → f (transitionOf a i) ≤ h)
       → ((i : ℕ) → i < count a → f (transitionOf a i) ≤ w)
-      → total f (a .transitions) ≤ (a .states - 1) * h + (count a - (a .states - 1)) * w
+      → sumOver f (a .transitions) ≤ (a .states - 1) * h + (count a - (a .states - 1)) * w
   weighed f h w l low high =
       let each : (i : ℕ) → i < count a → f (transitionOf a i) + bitNo (home i) * (w - h) ≤ w = λ i m. one i m (home i) refl in
       let all = sum-count (λ i. f (transitionOf a i)) home w (w - h) (count a) each in
-      subst (λ (x : ℕ). x ≤ (a .states - 1) * h + (count a - (a .states - 1)) * w) (sym (total-sum f (a .transitions)))
+      subst (λ (x : ℕ). x ≤ (a .states - 1) * h + (count a - (a .states - 1)) * w) (sym (sum-at f (a .transitions)))
       (share _ (countBelow home (count a)) (a .states - 1) (count a) h w l homes (count-le home (count a)) all)
     where
       one : (i : ℕ) → i < count a → (b : Bool) → home i ≡ b → f (transitionOf a i) + bitNo b * (w - h) ≤ w

@@ -12,7 +12,7 @@ use Rattle.bits.specs.Word.{bitsOf}
 use Rattle.bits.specs.Field.{numAt}
 use Rattle.bits.specs.Read.{ok}
 use Rattle.condition.specs.Cond.{Cond, inp, neg, conj, disj, nodes, condBits}
-use Rattle.reader.specs.Sheet.{Transition, Sheet, count, transitionOf}
+use Rattle.reader.specs.Sheet.{Transition, Sheet, count, transitionOf, sumOver}
 use Rattle.reader.specs.Reading.{endsAt, readSheet}
 use Rattle.rules.specs.Rules.{Rules}
 use Rattle.rules.specs.Writing.{transitionBits, sheetBits}
@@ -20,7 +20,7 @@ use Rattle.rules.proofs.Search.{and-true}
 use Rattle.rules.proofs.ListStands.{joinAll}
 use Rattle.rules.proofs.TransitionStands.{transition-length}
 use Rattle.rules.proofs.SheetStands.{sheet-said, sheet-length}
-use Rattle.rules.proofs.Counting.{total, homes-few, pairs-few, weighed}
+use Rattle.rules.proofs.Counting.{homes-few, pairs-few, weighed}
 
 -- 6 bits for an input and 2 for any other node
 cond-bits : (t : Cond) → length (condBits t) ≤ 4 * nodes t + 2
@@ -39,7 +39,7 @@ rows-length [] l h = omega arith
 rows-length (row ∷ rows) l h =
     length-append row (joinAll (λ r. r) rows) ∙ omega (arith, h 0 (omega arith), rows-length rows l (λ i m. h (suc i) (omega arith)))
 
-transitions-length : (ts : List Transition) → length (joinAll transitionBits ts) ≡ total (λ t. length (transitionBits t)) ts
+transitions-length : (ts : List Transition) → length (joinAll transitionBits ts) ≡ sumOver (λ t. length (transitionBits t)) ts
 transitions-length [] = refl
 transitions-length (t ∷ ts) = length-append (transitionBits t) (joinAll transitionBits ts) ∙ omega (arith, transitions-length ts)
 

@@ -1,2 +1,5 @@
 pub mod AllLaws
 pub mod ChoiceLaws
+pub mod BestLaws
+pub mod PickLaws
+pub mod ScanLaws

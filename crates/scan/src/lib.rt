@@ -1,5 +1,19 @@
 // The reference scan: one scan that works from the sheet, and its cold start.
 use answer::Checked;
+use answer::Refusal;
+use bits::Cursor;
+use condition::CondRead;
+use reader::Line;
+use sheet::Opened;
+ghost use mathlib.Core.Path.{_≡_};
+ghost use mathlib.Core.List.{List};
+ghost use Prim.Native.Nat.{ℕ, _≤_, _<_};
+ghost use lib.ListN.{length, getD};
+ghost use Rattle.reader.specs.Sheet.{Transition, noTransition};
+ghost use Rattle.reader.specs.Decoding.{Holds, noLine};
+ghost use Rattle.sheet.specs.Opening.{Opens};
+ghost use Rattle.scan.specs.Scan.{can, best, scanSheet, coldScan};
+ghost use Rattle.scan.specs.Picking.{Picks, tookOf, Inside, movedOf};
 
 // The reference's record: the active state, its outputs (output a has weight 2^a) and the clock.
 pub struct State {
@@ -12,4 +26,156 @@ pub struct State {
 pub struct Scanned {
     pub verdict: Checked,
     pub record: State,
+}
+
+// The best transition met so far, if one was met.
+pub enum Pick {
+    Nothing,
+    Best(u8, u8),
+}
+
+// Whether the line's transition can fire: its condition is judged straight from the sheet's bits, and only if its source is the active state.
+fn can_fire(s: &[u8], line: Line, k: u32, active: u8, word: u32, clock: u32) -> bool
+    requires { ⌜ line .cond < 900000 ⌝ }
+    ensures { λ r. ⌜ ((t : Transition) → Holds (now (s .entry)) k line t → r ≡ can active word clock t) ⌝ }
+{
+    if line.source != active {
+        return false;
+    }
+    let c = Cursor { at: line.cond };
+    let a = condition::read_condition(s, c, k, 8, 0, word);
+    let CondRead::Next(_, f) = a else {
+        return false;
+    };
+    f.value & (line.wait <= clock)
+}
+
+// The one with the smaller priority number; the earlier where they are equal.
+fn took(p: Pick, line: Line) -> Pick
+    ensures { λ r. ⌜ r ≡ tookOf p line ⌝ }
+{
+    match p {
+        Pick::Nothing => Pick::Best(line.priority, line.destination),
+        Pick::Best(priority, _) => if priority <= line.priority {
+            p
+        } else {
+            Pick::Best(line.priority, line.destination)
+        },
+    }
+}
+
+// Of the m transitions, the one that fires.
+fn choose(s: &[u8], lines: [Line; 128], m: usize, k: u32, active: u8, word: u32, clock: u32) -> Pick
+    requires { ⌜ (m ≤ 128) × ((i : ℕ) → i < m → getD lines i noLine .cond < 900000) ⌝ }
+    ensures { λ r. ⌜ ((ts : List Transition) → length ts ≡ m → ((i : ℕ) → i < m → Holds (now (s .entry)) k (getD lines i noLine) (getD ts i noTransition)) → Picks r (best active word clock ts)) ⌝ }
+{
+    let mut best = Pick::Nothing;
+    let mut i: usize = 0;
+    while i < m {
+        let line = lines[i];
+        if can_fire(s, line, k, active, word, clock) {
+            best = took(best, line);
+        }
+        i += 1;
+    }
+    best
+}
+
+// The record after a scan that brought the clock forward and chose p.
+fn moved(rows: [u16; 32], record: State, clock: u32, p: Pick) -> State
+    requires { ⌜ Inside p ⌝ }
+    ensures { λ r. ⌜ r ≡ movedOf rows «record» clock p ⌝ }
+{
+    match p {
+        Pick::Nothing => State {
+            state: record.state,
+            outputs: record.outputs,
+            clock: clock,
+        },
+        Pick::Best(_, destination) => {
+            let outputs = rows[destination as usize];
+            State {
+                state: destination,
+                outputs: outputs,
+                clock: 0,
+            }
+        }
+    }
+}
+
+// A scan on a sheet that was opened.
+fn scan_opened(sheet: &[u8], o: Opened, record: State, inputs: u16, elapsed: u32) -> Scanned
+    requires { ⌜ Opens (now sheet) o ⌝ }
+    ensures { λ r. ⌜ r ≡ scanSheet (now (sheet .entry)) «record» inputs elapsed ⌝ }
+{
+    let verdict = o.verdict;
+    match verdict {
+        Checked::Refused(why) => Scanned {
+            verdict: Checked::Refused(why),
+            record: record,
+        },
+        Checked::Accepted => {
+            let d = o.decoded;
+            let active = record.state;
+            if d.states <= active as u32 {
+                return Scanned {
+                    verdict: Checked::Refused(Refusal::NoState(active as usize)),
+                    record: record,
+                };
+            }
+            let clock = clock::bring_forward(record.clock, elapsed);
+            let lines = d.lines;
+            let rows = d.rows;
+            let p = choose(
+                sheet,
+                lines,
+                d.transitions,
+                d.inputs,
+                active,
+                inputs as u32,
+                clock,
+            );
+            Scanned {
+                verdict: Checked::Accepted,
+                record: moved(rows, record, clock, p),
+            }
+        }
+    }
+}
+
+// One scan of the reference, on any byte string, record, input word and elapsed time.
+pub fn scan(sheet: &[u8], record: State, inputs: u16, elapsed: u32) -> Scanned
+    ensures { λ r. ⌜ r ≡ scanSheet (now (sheet .entry)) «record» inputs elapsed ⌝ }
+{
+    let o = sheet::open_sheet(sheet);
+    scan_opened(sheet, o, record, inputs, elapsed)
+}
+
+// The reference's cold start, on any byte string.
+pub fn cold_scan(sheet: &[u8]) -> Scanned
+    ensures { λ r. ⌜ r ≡ coldScan (now (sheet .entry)) ⌝ }
+{
+    let o = sheet::open_sheet(sheet);
+    let verdict = o.verdict;
+    match verdict {
+        Checked::Refused(why) => Scanned {
+            verdict: Checked::Refused(why),
+            record: State {
+                state: 0,
+                outputs: 0,
+                clock: 0,
+            },
+        },
+        Checked::Accepted => {
+            let d = o.decoded;
+            Scanned {
+                verdict: Checked::Accepted,
+                record: State {
+                    state: 0,
+                    outputs: d.rows[0],
+                    clock: 0,
+                },
+            }
+        }
+    }
 }

@@ -1,3 +1,4 @@
 pub mod Judging
+pub mod Lines
 pub mod Opening
 pub mod Table

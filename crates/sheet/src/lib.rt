@@ -1,9 +1,242 @@
 // The rules of a sheet: numbers 7 to 13, and the check that answers every byte string.
 use answer::Checked;
+use answer::Found;
+use answer::Refusal;
 use reader::Decoded;
+use reader::How;
+use reader::Line;
+ghost use mathlib.Core.Path.{_≡_};
+ghost use mathlib.Core.List.{List};
+ghost use Prim.Native.Nat.{ℕ, _≤_};
+ghost use Rattle.answer.specs.Lowest.{firstBelow};
+ghost use Rattle.reader.specs.Sheet.{Sheet};
+ghost use Rattle.reader.specs.Decoding.{Copy};
+ghost use Rattle.sheet.specs.Judging.{judge, checkSheet};
+ghost use Rattle.sheet.specs.Lines.{lineOf, loopLine, pairLines, rankLines, firstClash, Homes, lacksHomeLine, homeFormLine, gateLine, activityRow, judgeForms};
+ghost use Rattle.sheet.specs.Opening.{Opens};
 
 // What a sheet's bytes are found to be: the verdict, and the decoded copy where it accepts.
 pub struct Opened {
     pub verdict: Checked,
     pub decoded: Decoded,
+}
+
+// 7 LOOP: the first transition back to its own source.
+fn first_loop(lines: [Line; 128], m: usize) -> Found
+    requires { ⌜ m ≤ 128 ⌝ }
+    ensures { λ r. ⌜ r ≡ firstBelow (λ i. loopLine (lineOf lines i)) m ⌝ }
+{
+    let mut i: usize = 0;
+    while i < m {
+        let t = lines[i];
+        if t.source == t.destination {
+            return Found::At(i);
+        }
+        i += 1;
+    }
+    Found::Nothing
+}
+
+// 8 PAIR: the first transition with the source and the destination of an earlier one.
+fn first_pair(lines: [Line; 128], m: usize) -> Found
+    requires { ⌜ m ≤ 128 ⌝ }
+    ensures { λ r. ⌜ r ≡ firstClash pairLines lines m ⌝ }
+{
+    let mut later: usize = 0;
+    let found = 'pair: loop {
+        if m <= later {
+            break Found::Nothing;
+        }
+        let u = lines[later];
+        let mut earlier: usize = 0;
+        while earlier < later {
+            let t = lines[earlier];
+            if (t.source == u.source) & (t.destination == u.destination) {
+                break 'pair Found::At(later);
+            }
+            earlier += 1;
+        }
+        later += 1;
+    };
+    found
+}
+
+// 9 RANK: the first transition with the source and the priority of an earlier one.
+fn first_rank(lines: [Line; 128], m: usize) -> Found
+    requires { ⌜ m ≤ 128 ⌝ }
+    ensures { λ r. ⌜ r ≡ firstClash rankLines lines m ⌝ }
+{
+    let mut later: usize = 0;
+    let found = 'rank: loop {
+        if m <= later {
+            break Found::Nothing;
+        }
+        let u = lines[later];
+        let mut earlier: usize = 0;
+        while earlier < later {
+            let t = lines[earlier];
+            if (t.source == u.source) & (t.priority == u.priority) {
+                break 'rank Found::At(later);
+            }
+            earlier += 1;
+        }
+        later += 1;
+    };
+    found
+}
+
+// The word whose bit s says that state s has a transition to 0; a sheet names no state above 31.
+fn homes(lines: [Line; 128], m: usize) -> u32
+    requires { ⌜ m ≤ 128 ⌝ }
+    ensures { λ r. ⌜ Homes lines m r ⌝ }
+{
+    let mut word: u32 = 0;
+    let mut i: usize = 0;
+    while i < m {
+        let t = lines[i];
+        if (t.destination == 0) & (t.source < 32) {
+            word = bits::set_bit(word, t.source as u32);
+        }
+        i += 1;
+    }
+    word
+}
+
+// 10 NO-HOME: the first state other than 0 without a transition to 0.
+fn first_no_home(lines: [Line; 128], m: usize, n: usize) -> Found
+    requires { ⌜ (m ≤ 128) × (n ≤ 32) ⌝ }
+    ensures { λ r. ⌜ r ≡ firstBelow (lacksHomeLine lines m) n ⌝ }
+{
+    let word = homes(lines, m);
+    let mut s: usize = 1;
+    while s < n {
+        if !bits::get_bit(word, s as u32) {
+            return Found::At(s);
+        }
+        s += 1;
+    }
+    Found::Nothing
+}
+
+// 11 HOME-FORM: the first transition to 0 that is not priority 0, wait 0 and NOT input 0.
+fn first_home_form(lines: [Line; 128], m: usize) -> Found
+    requires { ⌜ m ≤ 128 ⌝ }
+    ensures { λ r. ⌜ r ≡ firstBelow (λ i. homeFormLine (lineOf lines i)) m ⌝ }
+{
+    let mut i: usize = 0;
+    while i < m {
+        let t = lines[i];
+        if (t.destination == 0) & !((t.priority == 0) & (t.wait == 0) & (t.form == 2)) {
+            return Found::At(i);
+        }
+        i += 1;
+    }
+    Found::Nothing
+}
+
+// 12 GATE: the first transition from 0 whose condition has neither form; no value of the condition is asked.
+fn first_gate(lines: [Line; 128], m: usize) -> Found
+    requires { ⌜ m ≤ 128 ⌝ }
+    ensures { λ r. ⌜ r ≡ firstBelow (λ i. gateLine (lineOf lines i)) m ⌝ }
+{
+    let mut i: usize = 0;
+    while i < m {
+        let t = lines[i];
+        if (t.source == 0) & !((t.form == 1) | (t.form == 3)) {
+            return Found::At(i);
+        }
+        i += 1;
+    }
+    Found::Nothing
+}
+
+// 13 ACTIVITY: the first state whose output 0 is not whether it is state 0.
+fn first_activity(rows: [u16; 32], n: usize) -> Found
+    requires { ⌜ n ≤ 32 ⌝ }
+    ensures { λ r. ⌜ r ≡ firstBelow (activityRow rows) n ⌝ }
+{
+    let mut s: usize = 0;
+    while s < n {
+        let active = bits::get_bit(rows[s] as u32, 0);
+        if active != (s == 0) {
+            return Found::At(s);
+        }
+        s += 1;
+    }
+    Found::Nothing
+}
+
+// The numbers 10 to 13, lowest first.
+fn judge_forms(lines: [Line; 128], m: usize, rows: [u16; 32], n: usize) -> Checked
+    requires { ⌜ (m ≤ 128) × (n ≤ 32) ⌝ }
+    ensures { λ r. ⌜ r ≡ judgeForms lines m rows n ⌝ }
+{
+    let no_home = first_no_home(lines, m, n);
+    if let Found::At(s) = no_home {
+        return Checked::Refused(Refusal::NoHome(s));
+    }
+    let home_form = first_home_form(lines, m);
+    if let Found::At(i) = home_form {
+        return Checked::Refused(Refusal::HomeForm(i));
+    }
+    let gate = first_gate(lines, m);
+    if let Found::At(i) = gate {
+        return Checked::Refused(Refusal::Gate(i));
+    }
+    match first_activity(rows, n) {
+        Found::At(s) => Checked::Refused(Refusal::Activity(s)),
+        Found::Nothing => Checked::Accepted,
+    }
+}
+
+// The numbers 7 to 13 of a sheet read to its end, the lowest first.
+fn judge_decoded(d: Decoded) -> Checked
+    requires { ⌜ (d .transitions ≤ 128) × (d .states ≤ 32) ⌝ }
+    ensures { λ r. ⌜ ((s : List ℕ) (a : Sheet) → Copy s d a → r ≡ judge a) ⌝ }
+{
+    let lines = d.lines;
+    let m = d.transitions;
+    let to_itself = first_loop(lines, m);
+    if let Found::At(i) = to_itself {
+        return Checked::Refused(Refusal::Loop(i));
+    }
+    let pair = first_pair(lines, m);
+    if let Found::At(i) = pair {
+        return Checked::Refused(Refusal::Pair(i));
+    }
+    let rank = first_rank(lines, m);
+    if let Found::At(i) = rank {
+        return Checked::Refused(Refusal::Rank(i));
+    }
+    let rows = d.rows;
+    judge_forms(lines, m, rows, d.states as usize)
+}
+
+// A sheet that is checked and decoded once, for the crates that go on with it.
+pub fn open_sheet(sheet: &[u8]) -> Opened
+    ensures { λ r. ⌜ Opens (now (sheet .entry)) r ⌝ }
+{
+    let d = reader::read_sheet(sheet);
+    let how = d.how;
+    match how {
+        How::Bad(why) => Opened {
+            verdict: Checked::Refused(why),
+            decoded: d,
+        },
+        How::Done(_) => {
+            let verdict = judge_decoded(d);
+            Opened {
+                verdict: verdict,
+                decoded: d,
+            }
+        }
+    }
+}
+
+// The verdict on any byte string.
+pub fn check_sheet(sheet: &[u8]) -> Checked
+    ensures { λ r. ⌜ r ≡ checkSheet (now (sheet .entry)) ⌝ }
+{
+    let o = open_sheet(sheet);
+    o.verdict
 }

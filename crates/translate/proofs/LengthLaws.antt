@@ -28,7 +28,7 @@ use Rattle.translate.specs.Translation.{
   translate,
 }
 use Rattle.translate.specs.Writing.{codeOf}
-use Rattle.translate.proofs.CodeLaws.{bytes-length}
+use Rattle.code.proofs.WordLaws.{bytes-length}
 
 -- the words of a condition, of a wait and of a block
 pub cond-length : (c : Cond) → length (condCode c) ≡ wordCount c

@@ -1,7 +1,7 @@
-pub mod CodeLaws
 pub mod LengthLaws
 pub mod SortLaws
 pub mod NextLaws
+pub mod RoomLaws
 pub mod WroteLaws
 pub mod ConditionLaws
 pub mod BlockLaws

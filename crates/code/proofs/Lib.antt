@@ -1,0 +1,8 @@
+pub mod WordLaws
+pub mod MarkLaws
+pub mod CheckLaws
+pub mod FaultLaws
+pub mod StepLaws
+pub mod PassedLaws
+pub mod RunLaws
+pub mod TextLaws

@@ -1,0 +1,98 @@
+-- The promises about bytes, closed with what crate rules proves of an accepted sheet. Assumes nothing.
+use mathlib.Core.Path.{_≡_, sym, ap, _∙_}
+use mathlib.Core.List.{List}
+use Prim.Native.Nat.{ℕ, _+_, _*_, _-_, _≤_, _<_}
+use lib.ListN.{length}
+use Rattle.answer.specs.declared.Checked.the-variants.{Accepted}
+use Rattle.bits.specs.Read.{ok}
+use Rattle.bits.proofs.ReadLaws.{ok-is}
+use Rattle.reader.specs.Reading.{readSheet}
+use Rattle.rules.proofs.Acceptance.{accepted-rules}
+use Rattle.rules.proofs.Counting.{homes-few, pairs-few, weighed}
+use Rattle.sheet.specs.Judging.{checkSheet}
+use Rattle.scan.specs.declared.Scanned.{Scanned}
+use Rattle.scan.specs.Scan.{scanOf, scanSheet}
+use Rattle.code.specs.Run.{runCode}
+use Rattle.translate.specs.declared.Cold.{Cold}
+use Rattle.translate.specs.Writing.{Written, codeOf, translateInto}
+use Rattle.promises.specs.Moves.{MovesAsPublished, OneMove}
+use Rattle.promises.specs.Demand3.{codeIn, Demand3}
+use Rattle.promises.specs.Length.{LengthRule}
+use Rattle.promises.specs.Ignored.{InputsIgnored}
+use Rattle.promises.specs.Worthless.{NoInventedRoom}
+use Rattle.promises.proofs.AcceptedLaws.{translator-accepted, scan-is, cold-scan-is, cold-run-is}
+use Rattle.promises.proofs.CheckProof.{check-code}
+use Rattle.promises.proofs.MovesProof.{moves-scan, moves-only}
+use Rattle.promises.proofs.Demand3Proof.{run-is, follows, code-in}
+use Rattle.promises.proofs.LengthProof.{bytes-are, fitted, at-most}
+use Rattle.promises.proofs.IgnoredProof.{scan-ignores, run-ignores}
+use Rattle.promises.proofs.RefusalsProof.{refusals}
+
+-- DEMAND 3
+pub demand3 : Demand3 translateInto runCode
+demand3 s buffer h =
+    let acc : checkSheet s ≡ Accepted = translator-accepted s buffer h in
+    let r = accepted-rules s acc in
+    let code : codeIn (translateInto s buffer) ≡ codeOf (r .0) = code-in (r .0) (r .3) s (r .1) (r .2) acc buffer h in (
+      r .0,
+      r .1,
+      r .2,
+      rw code (check-code (r .0) (r .3)),
+      ap (λ (v : Scanned). v .verdict) (cold-scan-is s (r .0) (r .1) (r .2) acc),
+      ap (λ (v : Cold). v .verdict) (cold-run-is s (r .0) (r .1) (r .2) acc),
+      λ ticks. rw code (follows (r .0) (r .3) s (r .1) (r .2) acc ticks),
+    )
+
+pub moves-as-published : MovesAsPublished
+moves-as-published s acc =
+    let r = accepted-rules s acc in (
+      r .0,
+      r .1,
+      r .2,
+      λ q lt word elapsed.
+          let is : scanSheet s q word elapsed .«record» ≡ scanOf (r .0) q word elapsed =
+          ap (λ (v : Scanned). v .«record») (scan-is s (r .0) (r .1) (r .2) acc q lt word elapsed) in (
+            ap (λ (v : Scanned). v .verdict) (scan-is s (r .0) (r .1) (r .2) acc q lt word elapsed),
+            rw is (moves-scan (r .0) (r .3) q word elapsed),
+            λ p m. moves-only (r .0) (r .3) q word elapsed p m ∙ sym is,
+          ),
+    )
+
+pub one-move : OneMove
+one-move s acc =
+    let r = accepted-rules s acc in (
+      r .0,
+      r .1,
+      r .2,
+      λ q good word elapsed. (scanOf (r .0) q word elapsed, run-is (r .0) (r .3) q good word elapsed, moves-scan (r .0) (r .3) q word elapsed),
+    )
+
+pub inputs-ignored : InputsIgnored
+inputs-ignored s acc =
+    let r = accepted-rules s acc in (
+      r .0,
+      r .1,
+      r .2,
+      λ word other agree elapsed. (
+        scan-ignores (r .0) (r .3) word other agree elapsed s (r .1) (r .2) acc,
+        run-ignores (r .0) (r .3) word other agree elapsed,
+      ),
+    )
+
+pub length-rule : LengthRule
+length-rule s acc =
+    let r = accepted-rules s acc in (
+      r .0,
+      r .1,
+      r .2,
+      bytes-are (r .0) (r .3),
+      at-most (r .0) (r .3) (homes-few (r .0) (r .3)) (pairs-few (r .0) (r .3)) (weighed (r .0) (r .3)),
+      fitted (r .0) (r .3) s (r .1) (r .2) acc,
+    )
+
+pub no-invented-room : NoInventedRoom
+no-invented-room f is s buffer place e other =
+    let h = refusals .room s buffer place .0 (ap (λ (w : Written). w .answer .verdict) (sym (is s buffer)) ∙ e) in
+    let r = accepted-rules s (h .3) in
+    let same : h .0 ≡ r .0 = ok-is (sym (h .2) ∙ r .2) in
+    other (r .0, r .1, r .2, h .5 ∙ ap (λ a. length (codeOf a)) same ∙ bytes-are (r .0) (r .3))

@@ -1,0 +1,9 @@
+pub mod Same
+pub mod Moves
+pub mod Demand3
+pub mod Length
+pub mod Ignored
+pub mod Table
+pub mod Worthless
+pub mod Single
+pub mod Refusals

@@ -1,0 +1,1 @@
+// The promises: the three demands as theorems.

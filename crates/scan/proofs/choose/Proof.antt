@@ -1,0 +1,86 @@
+-- `scan::choose` meets its contract. The invariant: the best of the transitions passed, joined with the best of the rest, is the best of all. Assumes nothing.
+use borrow.Author.Needs.{needs}
+use mathlib.Core.Path.{_≡_, refl, sym, ap, _∙_, subst}
+use mathlib.Core.Logic.{⊎-elim}
+use mathlib.Core.List.{List, [], _∷_}
+use Prim.Native.Nat.{ℕ, suc, _+_, _-_, _≤_, _<_}
+use native.Mathlib.Omega.{arith}
+use native.Mathlib.Numerals.{add-one}
+use lib.ListN.{length, getD, drop}
+use lib.Seq.{drop-cons}
+use Rattle.reader.specs.Sheet.{Transition, noTransition}
+use Rattle.reader.specs.Decoding.{Holds, noLine}
+use Rattle.scan.specs.Scan.{Choice, none, some, can, best}
+use Rattle.scan.specs.Picking.{Picks, tookOf}
+use Rattle.scan.proofs.ChoiceLaws.{merge}
+use Rattle.scan.proofs.PickLaws.{Passed, passed-start, passed-fires, passed-stays, passed-end}
+use Rattle.scan.proofs.choose.Statement.{statement}
+use Rattle.scan.proofs.choose.Tie as tie
+use Rattle.scan.proofs.choose.Reads as reads
+use Rattle.scan.proofs.choose.Lts as lts
+use Rattle.scan.proofs.can_fire.Reads as can-fire-reads
+use Rattle.scan.proofs.took.Reads as took-reads
+
+abbrev Inv-loop : tie.InvT-loop
+Inv-loop s m k active word clock lines best₀ i₀ best i =
+    (i ≤ m) × ((ts : List Transition) → length ts ≡ m → ((j : ℕ) → j < m → Holds s k (getD lines j noLine) (getD ts j noTransition)) → Passed active word clock ts i best)
+
+abbrev μ-loop : tie.MeasureT-loop
+μ-loop s m k active word clock lines best₀ i₀ best i = m - i
+
+loop-holds : tie.Need-loop-holds Inv-loop μ-loop
+loop-holds c = (omega arith, λ ts e h. passed-start _ _ _ ts)
+
+mul-line : tie.Need-mul-line Inv-loop μ-loop
+mul-line c = omega arith
+
+array-copy-out-line : tie.Need-array-copy-out-line Inv-loop μ-loop
+array-copy-out-line c = omega arith
+
+can-fire-requires : tie.Need-can-fire-requires Inv-loop μ-loop
+can-fire-requires c κs = c .before .before .before .before .pre .1 (c .before .before .loop .i) (omega arith)
+
+took-requires : tie.Need-took-requires Inv-loop μ-loop
+took-requires c κs = search needs
+
+add-i : tie.Need-add-i Inv-loop μ-loop
+add-i c = omega arith
+
+loop-less : tie.Need-loop-less Inv-loop μ-loop
+loop-less c = omega arith
+
+loop-again : tie.Need-loop-again Inv-loop μ-loop
+loop-again c =
+    let a = c .before .before .before .before .before .before .args in
+    let l = c .before .before .before .before .loop in (
+      omega arith,
+      λ ts e h.
+          let here = h (l .i) (omega arith) in
+          let before = l .inv .1 ts e h in
+          let can = c .before .can-fire .ensures (getD ts (l .i) noTransition) here in
+          ⊎-elim
+          (λ w. subst (Passed (a .active) (a .word) (a .clock) ts (l .i + 1)) (sym (w .2 ∙ w .1 .ensures)) (passed-fires (a .active) (a .word) (a .clock) ts (l .i) (l .best) (omega arith) before (getD (a .t2) (l .i) noLine) (here .priority) (here .destination) (sym can ∙ w .0 .taken)))
+          (λ w. subst (Passed (a .active) (a .word) (a .clock) ts (l .i + 1)) (sym (w .1)) (passed-stays (a .active) (a .word) (a .clock) ts (l .i) (l .best) (omega arith) before (sym can ∙ w .0 .left)))
+          (c .if1 .came),
+    )
+
+returns : tie.Need-returns Inv-loop μ-loop
+returns c ts e h =
+    let a = c .before .before .before .args in
+    passed-end (a .active) (a .word) (a .clock) ts (c .before .loop .i) (c .before .loop .best) (omega arith) (c .before .loop .inv .1 ts e h)
+
+pub choose-spec : {M : Type 1} → statement M
+choose-spec =
+    tie.close
+    (tie.spec
+    Inv-loop
+    μ-loop
+    loop-holds
+    mul-line
+    array-copy-out-line
+    can-fire-requires
+    took-requires
+    add-i
+    loop-less
+    loop-again
+    returns)

@@ -1,0 +1,73 @@
+-- `sheet::homes` meets its contract. Assumes nothing.
+use mathlib.Core.Path.{_≡_}
+use mathlib.Core.Logic.{⊎-elim}
+use Prim.Native.Nat.{_-_, _≤_, _<_}
+use native.Mathlib.Omega.{arith}
+use lib.Dec.{eqb}
+use Rattle.reader.specs.declared.Line.{Line}
+use Rattle.sheet.specs.Lines.{lineOf, Homes}
+use Rattle.sheet.proofs.HomeLaws.{source-fits, homes-start, homes-set, homes-keep}
+use Rattle.sheet.proofs.homes.Statement.{statement}
+use Rattle.sheet.proofs.homes.Tie as tie
+
+abbrev Inv-loop : tie.InvT-loop
+Inv-loop m lines word₀ i₀ word i = (i ≤ m) × Homes lines i word
+
+abbrev μ-loop : tie.MeasureT-loop
+μ-loop m lines word₀ i₀ word i = m - i
+
+loop-holds : tie.Need-loop-holds Inv-loop μ-loop
+loop-holds c = (omega arith, homes-start (c .args .t1))
+
+mul-t : tie.Need-mul-t Inv-loop μ-loop
+mul-t c = omega arith
+
+array-copy-out-t : tie.Need-array-copy-out-t Inv-loop μ-loop
+array-copy-out-t c = omega arith
+
+abbrev line : tie.After-struct-known3 Inv-loop μ-loop → Line
+line c = lineOf (c .before .before .before .before .before .before .before .args .t1) (c .before .before .before .before .before .before .loop .i)
+
+fits : (c : tie.After-struct-known3 Inv-loop μ-loop) → line c .source < 32
+fits c = source-fits (eqb (line c .destination) 0) (line c .source) (c .before .if1 .taken)
+
+cast-set-bit : tie.Need-cast-set-bit Inv-loop μ-loop
+cast-set-bit c = omega (arith, fits c)
+
+set-bit-requires : tie.Need-set-bit-requires Inv-loop μ-loop
+set-bit-requires c κs = fits c
+
+add-i : tie.Need-add-i Inv-loop μ-loop
+add-i c = omega arith
+
+loop-less : tie.Need-loop-less Inv-loop μ-loop
+loop-less c = omega arith
+
+loop-again : tie.Need-loop-again Inv-loop μ-loop
+loop-again c =
+    let lines = c .before .before .before .before .before .before .args .t1 in
+    let i = c .before .before .before .before .before .loop .i in
+    let before = c .before .before .before .before .before .loop .inv .1 in (
+      omega arith,
+      ⊎-elim (λ w. rw (w .3, w .2 .ensures) (homes-set lines i _ before (w .0 .taken))) (λ w. rw (w .1) (homes-keep lines i _ before (w .0 .left)))
+          (c .if1 .came),
+    )
+
+returns : tie.Need-returns Inv-loop μ-loop
+returns c = let e : c .before .loop .i ≡ c .before .before .args .m = omega arith in rw (← e) (c .before .loop .inv .1)
+
+pub homes-spec : {M : Type 1} → statement M
+homes-spec =
+    tie.close
+    (tie.spec
+    Inv-loop
+    μ-loop
+    loop-holds
+    mul-t
+    array-copy-out-t
+    cast-set-bit
+    set-bit-requires
+    add-i
+    loop-less
+    loop-again
+    returns)

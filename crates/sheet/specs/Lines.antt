@@ -1,0 +1,81 @@
+-- The rules 7 to 13 over the decoded lines and rows, as the code tests them: not needed to read the promises.
+use Prim.Native.Nat.{ℕ, _<_}
+use mathlib.Core.Path.{_≡_}
+use mathlib.Core.Bool.{Bool, not, _&&_, _||_}
+use mathlib.Core.List.{List}
+use lib.ListN.{getD}
+use lib.Dec.{ltb, eqb}
+use Rattle.answer.specs.declared.Refusal.the-variants.{Loop, Pair, Rank, NoHome, HomeForm, Gate, Activity}
+use Rattle.answer.specs.declared.Found.{Found}
+use Rattle.answer.specs.declared.Checked.{Checked}
+use Rattle.answer.specs.declared.Checked.the-variants.{Accepted}
+use Rattle.answer.specs.Lowest.{anyBelow, firstBelow, refuseAt}
+use Rattle.bits.specs.Word.{getBit}
+use Rattle.reader.specs.declared.Line.{Line}
+use Rattle.reader.specs.declared.Decoded.{Decoded}
+use Rattle.reader.specs.Decoding.{noLine}
+use Rattle.sheet.specs.Judging.{differs}
+
+-- line i
+abbrev pub lineOf : List Line → ℕ → Line
+lineOf lines i = getD lines i noLine
+
+abbrev pub loopLine : Line → Bool
+loopLine t = eqb (t .source) (t .destination)
+
+abbrev pub pairLines : Line → Line → Bool
+pairLines t u = eqb (t .source) (u .source) && eqb (t .destination) (u .destination)
+
+abbrev pub rankLines : Line → Line → Bool
+rankLines t u = eqb (t .source) (u .source) && eqb (t .priority) (u .priority)
+
+-- line `later` clashes with some line before `earlier`
+abbrev pub clashBelow : (Line → Line → Bool) → List Line → ℕ → ℕ → Bool
+clashBelow same lines later earlier = anyBelow (λ i. same (lineOf lines i) (lineOf lines later)) earlier
+
+-- the lowest line that clashes with an earlier one
+unfoldable pub firstClash : (Line → Line → Bool) → List Line → ℕ → Found
+firstClash same lines m = firstBelow (λ later. clashBelow same lines later later) m
+
+abbrev pub homeLine : ℕ → Line → Bool
+homeLine s t = eqb (t .source) s && eqb (t .destination) 0
+
+-- one of the m lines goes from state s to 0
+unfoldable pub hasHome : List Line → ℕ → ℕ → Bool
+hasHome lines m s = anyBelow (λ i. homeLine s (lineOf lines i)) m
+
+-- bit s of the word says so
+abbrev pub Homes : List Line → ℕ → ℕ → Type 0
+Homes lines m word = (s : ℕ) → s < 32 → getBit word s ≡ hasHome lines m s
+
+abbrev pub lacksHomeLine : List Line → ℕ → ℕ → Bool
+lacksHomeLine lines m s = ltb 0 s && not (hasHome lines m s)
+
+-- the same by that word
+abbrev pub lacksBit : ℕ → ℕ → Bool
+lacksBit word s = ltb 0 s && not (getBit word s)
+
+abbrev pub homeFormLine : Line → Bool
+homeFormLine t = eqb (t .destination) 0 && not (eqb (t .priority) 0 && eqb (t .wait) 0 && eqb (t .form) 2)
+
+abbrev pub gateLine : Line → Bool
+gateLine t = eqb (t .source) 0 && not (eqb (t .form) 1 || eqb (t .form) 3)
+
+abbrev pub activityRow : List ℕ → ℕ → Bool
+activityRow rows s = differs (getBit (getD rows s 0) 0) (eqb s 0)
+
+-- the numbers 10 to 13
+unfoldable pub judgeForms : List Line → ℕ → List ℕ → ℕ → Checked
+judgeForms lines m rows n =
+    let thirteen = refuseAt Activity (firstBelow (activityRow rows) n) Accepted in
+    let twelve = refuseAt Gate (firstBelow (λ i. gateLine (lineOf lines i)) m) thirteen in
+    let eleven = refuseAt HomeForm (firstBelow (λ i. homeFormLine (lineOf lines i)) m) twelve in
+    refuseAt NoHome (firstBelow (lacksHomeLine lines m) n) eleven
+
+-- the numbers 7 to 13
+unfoldable pub judgeLines : Decoded → Checked
+judgeLines d =
+    let ten = judgeForms (d .lines) (d .transitions) (d .rows) (d .states) in
+    let nine = refuseAt Rank (firstClash rankLines (d .lines) (d .transitions)) ten in
+    let eight = refuseAt Pair (firstClash pairLines (d .lines) (d .transitions)) nine in
+    refuseAt Loop (firstBelow (λ i. loopLine (lineOf (d .lines) i)) (d .transitions)) eight
