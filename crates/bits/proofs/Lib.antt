@@ -1,3 +1,4 @@
 pub mod FieldLaws
 pub mod WordLaws
 pub mod ReadLaws
+pub mod PlaceLaws

@@ -6,3 +6,4 @@ pub mod StepLaws
 pub mod PassedLaws
 pub mod RunLaws
 pub mod TextLaws
+pub mod PlaceLaws

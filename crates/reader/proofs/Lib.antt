@@ -1,2 +1,3 @@
 pub mod FillLaws
 pub mod Laws
+pub mod PlaceLaws

@@ -3,3 +3,4 @@ pub mod ChoiceLaws
 pub mod BestLaws
 pub mod PickLaws
 pub mod ScanLaws
+pub mod PlaceLaws

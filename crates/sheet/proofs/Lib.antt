@@ -5,3 +5,4 @@ pub mod FormLaws
 pub mod RowLaws
 pub mod CopyLaws
 pub mod WithLaws
+pub mod PlaceLaws

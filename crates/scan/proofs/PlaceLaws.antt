@@ -1,0 +1,27 @@
+-- How large the place of a refused scan can be: the sheet's, or the state given, which is a byte. Assumes nothing.
+use mathlib.Core.Path.{_≡_, refl}
+use mathlib.Core.Bool.{Bool, true, false, cond}
+use mathlib.Core.List.{List}
+use Prim.Native.Nat.{ℕ, _≤_, _<_}
+use native.Mathlib.Omega.{arith}
+use lib.Dec.{ltb}
+use Rattle.answer.specs.Number.{placeOf}
+use Rattle.answer.specs.declared.Refusal.the-variants.{NoState}
+use Rattle.sheet.proofs.PlaceLaws.{with-fits}
+use Rattle.scan.specs.Scan.{scanOf, coldOf, accepted, refused, zeros, scanSheet, coldScan}
+use Rattle.scan.specs.declared.State.{State}
+use Rattle.scan.specs.declared.Scanned.{Scanned}
+
+pub place-fits : (s : List ℕ) (q : State) (word elapsed : ℕ) → q .state < 256 → placeOf (scanSheet s q word elapsed .verdict) ≤ 40000
+unfolding scanSheet
+place-fits s q word elapsed l =
+    with-fits (λ (x : Scanned). x .verdict) (refused q) (λ why. refl) s _
+    (λ a end e. go (ltb (q .state) (a .states)) (scanOf a q word elapsed))
+  where
+    go : (b : Bool) (moved : State) → placeOf (cond b (accepted moved) (refused q (NoState (q .state))) .verdict) ≤ 40000
+    go true moved = omega arith
+    go false moved = omega arith
+
+pub cold-place-fits : (s : List ℕ) → placeOf (coldScan s .verdict) ≤ 40000
+unfolding coldScan
+cold-place-fits s = with-fits (λ (x : Scanned). x .verdict) (refused zeros) (λ why. refl) s _ (λ a end e. omega arith)
