@@ -20,27 +20,29 @@ use Rattle.promises.specs.Demand3.{codeIn, Demand3}
 use Rattle.promises.specs.Length.{LengthRule}
 use Rattle.promises.specs.Ignored.{InputsIgnored}
 use Rattle.promises.specs.Worthless.{NoInventedRoom}
-use Rattle.promises.proofs.AcceptedLaws.{translator-accepted, scan-is, cold-scan-is, cold-run-is}
+use Rattle.promises.proofs.AcceptedLaws.{scan-is, cold-scan-is, cold-run-is}
 use Rattle.promises.proofs.CheckProof.{check-code}
 use Rattle.promises.proofs.MovesProof.{moves-scan, moves-only}
-use Rattle.promises.proofs.Demand3Proof.{run-is, follows, code-in}
+use Rattle.promises.proofs.Demand3Proof.{run-is, follows, with-room, code-in}
 use Rattle.promises.proofs.LengthProof.{bytes-are, fitted, at-most}
 use Rattle.promises.proofs.IgnoredProof.{scan-ignores, run-ignores}
 use Rattle.promises.proofs.RefusalsProof.{refusals}
 
 -- DEMAND 3
 pub demand3 : Demand3 translateInto runCode
-demand3 s buffer h =
-    let acc : checkSheet s ≡ Accepted = translator-accepted s buffer h in
-    let r = accepted-rules s acc in
-    let code : codeIn (translateInto s buffer) ≡ codeOf (r .0) = code-in (r .0) (r .3) s (r .1) (r .2) acc buffer h in (
+demand3 s acc =
+    let r = accepted-rules s acc in (
       r .0,
       r .1,
       r .2,
-      rw code (check-code (r .0) (r .3)),
       ap (λ (v : Scanned). v .verdict) (cold-scan-is s (r .0) (r .1) (r .2) acc),
       ap (λ (v : Cold). v .verdict) (cold-run-is s (r .0) (r .1) (r .2) acc),
-      λ ticks. rw code (follows (r .0) (r .3) s (r .1) (r .2) acc ticks),
+      λ buffer h.
+          let code : codeIn (translateInto s buffer) ≡ codeOf (r .0) = code-in (r .0) (r .3) s (r .1) (r .2) acc buffer h in (
+            ap (λ (w : Written). w .answer .verdict) (with-room (r .0) (r .3) s (r .1) (r .2) acc buffer h),
+            rw code (check-code (r .0) (r .3)),
+            λ ticks. rw code (follows (r .0) (r .3) s (r .1) (r .2) acc ticks),
+          ),
     )
 
 pub moves-as-published : MovesAsPublished

@@ -6,8 +6,8 @@ pub mod CheckProof
 pub mod MovesProof
 pub mod HomeProof
 pub mod AcceptedLaws
-pub mod Demand3Proof
 pub mod LengthProof
+pub mod Demand3Proof
 pub mod IgnoredProof
 pub mod TableProof
 pub mod SingleProof

@@ -1,7 +1,7 @@
 pub mod Same
 pub mod Moves
-pub mod Demand3
 pub mod Length
+pub mod Demand3
 pub mod Ignored
 pub mod Table
 pub mod Worthless

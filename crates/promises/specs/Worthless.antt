@@ -33,14 +33,12 @@ RefusesAll f = (s : List ℕ) → (why : Refusal) × (f s ≡ Refused why)
 abbrev pub AcceptsAll : (List ℕ → Checked) → Type 0
 AcceptsAll f = (s : List ℕ) → f s ≡ Accepted
 
--- translators that accept and refuse as they should, and leave one END, or no byte at all
+-- translators that leave END alone wherever they accept, or no byte at all, whatever they answer
 abbrev pub WritesEnd : Translator → Type 0
-WritesEnd f =
-    (s buffer : List ℕ) → (f s buffer .answer .verdict ≡ translateInto s buffer .answer .verdict)
-    × (f s buffer .answer .verdict ≡ Accepted → codeIn (f s buffer) ≡ toBytes (END ∷ []))
+WritesEnd f = (s buffer : List ℕ) → f s buffer .answer .verdict ≡ Accepted → codeIn (f s buffer) ≡ toBytes (END ∷ [])
 
 abbrev pub WritesNothing : Translator → Type 0
-WritesNothing f = (s buffer : List ℕ) → (f s buffer .answer ≡ translateInto s buffer .answer) × (f s buffer .buffer ≡ buffer)
+WritesNothing f = (s buffer : List ℕ) → f s buffer .buffer ≡ buffer
 
 -- runners that hand the record back: always, or once time has run, so that they may be right on the first scan after a cold start
 abbrev pub HandsBack : Runner → Type 0
