@@ -2,7 +2,8 @@
 use mathlib.Core.Path.{_≡_, sym, ap, _∙_}
 use mathlib.Core.List.{List}
 use Prim.Native.Nat.{ℕ, _+_, _*_, _-_, _≤_, _<_}
-use lib.ListN.{length}
+use native.Mathlib.Omega.{arith}
+use lib.ListN.{length, replicate, length-replicate}
 use Rattle.answer.specs.declared.Checked.the-variants.{Accepted}
 use Rattle.bits.specs.Read.{ok}
 use Rattle.bits.proofs.ReadLaws.{ok-is}
@@ -15,11 +16,12 @@ use Rattle.scan.specs.Scan.{scanOf, scanSheet}
 use Rattle.code.specs.Run.{runCode}
 use Rattle.translate.specs.declared.Cold.{Cold}
 use Rattle.translate.specs.Writing.{Written, codeOf, translateInto}
+use Rattle.promises.specs.Same.{embed}
 use Rattle.promises.specs.Moves.{MovesAsPublished, OneMove}
-use Rattle.promises.specs.Demand3.{codeIn, Demand3}
-use Rattle.promises.specs.Length.{LengthRule}
+use Rattle.promises.specs.Demand3.{refAfter, runAfter, codeIn, Demand3}
+use Rattle.promises.specs.Length.{wordsOf, LengthRule}
 use Rattle.promises.specs.Ignored.{InputsIgnored}
-use Rattle.promises.specs.Worthless.{NoInventedRoom}
+use Rattle.promises.specs.Worthless.{NoInventedRoom, OneRunner}
 use Rattle.promises.proofs.AcceptedLaws.{scan-is, cold-scan-is, cold-run-is}
 use Rattle.promises.proofs.CheckProof.{check-code}
 use Rattle.promises.proofs.MovesProof.{moves-scan, moves-only}
@@ -98,3 +100,20 @@ no-invented-room f is s buffer place e other =
     let r = accepted-rules s (h .3) in
     let same : h .0 ≡ r .0 = ok-is (sym (h .2) ∙ r .2) in
     other (r .0, r .1, r .2, h .5 ∙ ap (λ a. length (codeOf a)) same ∙ bytes-are (r .0) (r .3))
+
+pub one-runner : OneRunner
+one-runner f d s acc =
+    let r = accepted-rules s acc in
+    let h = d s acc in
+    let same : h .0 ≡ r .0 = ok-is (sym (h .2) ∙ r .2) in
+    let room : List ℕ = replicate (4 * wordsOf (r .0)) 0 in
+    let long : 4 * wordsOf (r .0) ≤ length room = omega (arith, length-replicate {A = ℕ} (4 * wordsOf (r .0)) 0) in
+    let code : codeIn (translateInto s room) ≡ codeOf (r .0) = code-in (r .0) (r .3) s (r .1) (r .2) acc room long in (
+      r .0,
+      r .1,
+      r .2,
+      λ ticks.
+          let it : runAfter f s (codeIn (translateInto s room)) ticks ≡ embed (refAfter s ticks) =
+          h .5 room (omega (arith, ap wordsOf same)) .2 ticks .same in
+          rw code at it ∙ sym (follows (r .0) (r .3) s (r .1) (r .2) acc ticks .same),
+    )
