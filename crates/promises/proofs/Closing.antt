@@ -1,12 +1,16 @@
 -- The promises about bytes, closed with what crate rules proves of an accepted sheet. Assumes nothing.
-use mathlib.Core.Path.{_≡_, sym, ap, _∙_}
+use mathlib.Core.Path.{_≡_, refl, sym, ap, _∙_}
+use mathlib.Core.Bool.{Bool, true, false}
 use mathlib.Core.List.{List}
-use Prim.Native.Nat.{ℕ, _+_, _*_, _-_, _≤_, _<_}
+use Prim.Native.Nat.{ℕ, _+_, _*_, _-_, _≤_, _<_, min}
 use native.Mathlib.Omega.{arith}
+use borrow.Author.Tests.{leb-true, leb-false, le-leb, lt-leb}
+use lib.Dec.{leb}
 use lib.ListN.{length, replicate, length-replicate}
 use Rattle.answer.specs.declared.Checked.the-variants.{Accepted}
 use Rattle.bits.specs.Read.{ok}
 use Rattle.bits.proofs.ReadLaws.{ok-is}
+use Rattle.reader.specs.Sheet.{transitionOf}
 use Rattle.reader.specs.Reading.{readSheet}
 use Rattle.rules.proofs.Acceptance.{accepted-rules}
 use Rattle.rules.proofs.Counting.{homes-few, pairs-few, weighed}
@@ -21,6 +25,7 @@ use Rattle.promises.specs.Moves.{MovesAsPublished, OneMove}
 use Rattle.promises.specs.Demand3.{refAfter, runAfter, codeIn, Demand3}
 use Rattle.promises.specs.Length.{wordsOf, LengthRule}
 use Rattle.promises.specs.Ignored.{InputsIgnored}
+use Rattle.promises.specs.Held.{HeldChangesNone}
 use Rattle.promises.specs.Worthless.{NoInventedRoom, OneRunner}
 use Rattle.promises.proofs.AcceptedLaws.{scan-is, cold-scan-is, cold-run-is}
 use Rattle.promises.proofs.CheckProof.{check-code}
@@ -81,6 +86,25 @@ inputs-ignored s acc =
         scan-ignores (r .0) (r .3) word other agree elapsed s (r .1) (r .2) acc,
         run-ignores (r .0) (r .3) word other agree elapsed,
       ),
+    )
+
+-- a wait that is no larger than the hold
+held-same : (wait time : ℕ) → wait ≤ 16777215 → leb wait (min time 16777215) ≡ leb wait time
+held-same wait time few = go (leb wait time) refl
+  where
+    go : (b : Bool) → leb wait time ≡ b → leb wait (min time 16777215) ≡ b
+    go true e = le-leb wait (min time 16777215) (omega (arith, leb-true wait time e))
+    go false e = lt-leb wait (min time 16777215) (omega (arith, leb-false wait time e))
+
+pub held-changes-none : HeldChangesNone
+held-changes-none s acc =
+    let r = accepted-rules s acc in (
+      r .0,
+      r .1,
+      r .2,
+      λ i l.
+          let few : transitionOf (r .0) i .wait ≤ 16777215 = omega (arith, r .3 .fields i l .wait) in
+          (few, λ time. held-same (transitionOf (r .0) i .wait) time few),
     )
 
 pub length-rule : LengthRule

@@ -17,4 +17,5 @@ pub mod JudgeProof
 pub mod CodeFaultProof
 pub mod ReadProof
 pub mod RefusalsProof
+pub mod LeftProof
 pub mod Closing

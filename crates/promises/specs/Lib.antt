@@ -7,3 +7,5 @@ pub mod Table
 pub mod Worthless
 pub mod Single
 pub mod Refusals
+pub mod Left
+pub mod Held
