@@ -14,6 +14,7 @@ pub mod SingleProof
 pub mod WorthlessProof
 pub mod LowestLaws
 pub mod JudgeProof
+pub mod WordFaultProof
 pub mod CodeFaultProof
 pub mod ReadProof
 pub mod RefusalsProof

@@ -6,6 +6,7 @@ pub mod Ignored
 pub mod Table
 pub mod Worthless
 pub mod Single
+pub mod WordFaults
 pub mod Refusals
 pub mod Left
 pub mod Held
