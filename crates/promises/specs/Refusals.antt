@@ -1,8 +1,8 @@
 -- "Numbers answered, with places": what each number means where it is answered, in the words of the table.
 use mathlib.Core.Path.{_≡_}
 use mathlib.Core.Logic.{_⊎_, _↔_}
-use mathlib.Core.Bool.{Bool, true, false, _||_}
-use mathlib.Core.List.{List, map}
+use mathlib.Core.Bool.{Bool, false}
+use mathlib.Core.List.{List, [], _∷_, map}
 use Prim.Native.Nat.{ℕ, _+_, _*_, _-_, _/_, _%_, _≤_, _<_}
 use lib.Dec.{eqb}
 use lib.ListN.{length, getD}
@@ -21,9 +21,10 @@ use Rattle.rules.specs.Rules.{HomeForm, Gated}
 use Rattle.sheet.specs.Judging.{checkSheet}
 use Rattle.scan.specs.declared.State.{State}
 use Rattle.scan.specs.Scan.{scanSheet}
-use Rattle.code.specs.Word.{END, decode, words}
-use Rattle.code.specs.Check.{faulty, unknown, depthAt, landsOpen, checkCode}
+use Rattle.code.specs.Word.{decode, words}
+use Rattle.code.specs.Check.{depthAt, checkCode}
 use Rattle.translate.specs.Writing.{codeOf, translateInto}
+use Rattle.promises.specs.WordFaults.{OneOf, WordFault}
 
 -- "the lowest number first, and within it the lowest place": an answer to faults, each with a number and a place
 abbrev pub Lowest : (ℕ → ℕ → Type 0) → Checked → Type 0
@@ -51,17 +52,24 @@ pub data SheetFault (a : Sheet) (n p : ℕ) : Type 0 where
   -- "output 0 is false in state 0 or true in another"; the state
   activity : n ≡ 13 → p < a .states → (getD (rowOf a p) 0 false ≡ eqb p 0 → ⊥) → SheetFault a n p
 
+-- "8 bits of code, 24 of operand", of a word as a number
+abbrev pub codeByte : ℕ → ℕ
+codeByte w = w / 16777216
+
+abbrev pub operandOf : ℕ → ℕ
+operandOf w = w % 16777216
+
 -- 15 to 17, of code
 pub data CodeFault (s : List ℕ) (n p : ℕ) : Type 0 where
   -- "code is empty, over 32,768 bytes, not a multiple of 4, or the code byte of its last word isn't 0"; 0
   code-end : n ≡ 15 → p ≡ 0
       → (length s ≡ 0) ⊎ ((32768 < length s) ⊎ ((0 < length s % 4) ⊎ (0 < getD s (length s - 4) 0))) → CodeFault s n p
-  -- "a word is at fault": it is no word, or faulty with the parentheses open before it; the word
+  -- "a word is at fault", with the parentheses open before it; the word
   word : n ≡ 16 → p < length (words s)
-      → (unknown (getD (words s) p 0) || faulty (length (words s)) p (depthAt 0 (map decode (words s)) p) (decode (getD (words s) p 0))) ≡ true
-      → CodeFault s n p
+      → WordFault (length (words s)) p (depthAt 0 (map decode (words s)) p) (codeByte (getD (words s) p 0)) (operandOf (getD (words s) p 0)) → CodeFault s n p
   -- "a parenthesis is open just before a jump's target word"; the word of the jump
-  landing : n ≡ 17 → p < length (words s) → landsOpen (map decode (words s)) (getD (map decode (words s)) p END) ≡ true → CodeFault s n p
+  landing : n ≡ 17 → p < length (words s) → OneOf (codeByte (getD (words s) p 0)) (12 ∷ 13 ∷ [])
+      → 0 < depthAt 0 (map decode (words s)) (operandOf (getD (words s) p 0)) → CodeFault s n p
 
 -- Of a condition that begins at bit c: the node whose tag is at a bit, with so many nodes before it, at a depth; "a lone input is 1 deep"
 pub data NodeAt (s : List ℕ) (k c : ℕ) : ℕ → ℕ → ℕ → Type 0 where
