@@ -30,7 +30,7 @@ use Rattle.code.specs.Worked.{bytes, code11}
 use Rattle.translate.specs.Writing.{Written, codeOf, translateInto, coldRecord, coldRun}
 use Rattle.promises.specs.Length.{wordsOf}
 use Rattle.promises.specs.Demand3.{Tick, Translator, Runner, refAfter, runAfter, sinceChange, codeIn, Follows, Demand3}
-use Rattle.promises.specs.Table.{twoContact, twoRows, twoArcs, twoSheet, scan, flag, state}
+use Rattle.promises.specs.Table.{twoContact, twoRows, twoArcs, twoSheet, brings, flag, state}
 use Rattle.promises.specs.Worthless.{WritesEnd, WritesNothing, HandsBack, RightAtFirst, Worthless}
 use Rattle.promises.proofs.AcceptedLaws.{accepted-refused}
 use Rattle.promises.proofs.TableProof.{two-read, two-accepted, two-checked, two-scan, cold-state, cold-flag, table}
@@ -80,14 +80,14 @@ two-fits a end e =
     omega (arith, ap wordsOf same, two-words)
 
 -- the first scan of P12, by the reference
-two-moves : refAfter twoContact (scan 1 0 0 10 ∷ []) .state ≡ 1
+two-moves : refAfter twoContact (brings 1 0 0 10 ∷ []) .state ≡ 1
 unfolding refAfter scanOf after best can eval getBit outputsOf wordOf twoSheet twoRows twoArcs
 two-moves =
     ap (λ q. scanSheet twoContact q 1 10 .«record» .state) cold-state
     ∙ ap (λ (v : Scanned). v .«record» .state) (two-scan (state 0 1 0) (omega arith) 1 10)
 
 -- code that begins with END leaves the flags
-idle-code : (code : List ℕ) → runCode code (flag 1 1 0) 1 10 .«record» .flags ≡ 1 → runAfter runCode twoContact code (scan 1 0 0 10 ∷ []) .flags ≡ 1
+idle-code : (code : List ℕ) → runCode code (flag 1 1 0) 1 10 .«record» .flags ≡ 1 → runAfter runCode twoContact code (brings 1 0 0 10 ∷ []) .flags ≡ 1
 unfolding runAfter
 idle-code code h = ap (λ r. runCode code r 1 10 .«record» .flags) cold-flag ∙ h
 
@@ -123,11 +123,11 @@ never-moves f d h =
     let two = d twoContact two-accepted in
     let room : List ℕ = replicate 1084 0 in
     let at = two .5 room (two-fits (two .0) (two .1) (two .2)) in
-    let flag : runAfter runCode twoContact (codeIn (f twoContact room)) (scan 1 0 0 10 ∷ []) .flags ≡ 2 =
-    at .2 (scan 1 0 0 10 ∷ []) .flag ∙ ap (λ n. 2 ^ n) two-moves in
+    let flag : runAfter runCode twoContact (codeIn (f twoContact room)) (brings 1 0 0 10 ∷ []) .flags ≡ 2 =
+    at .2 (brings 1 0 0 10 ∷ []) .flag ∙ ap (λ n. 2 ^ n) two-moves in
     let z : _≡_ {A = ℕ} 1 2 =
     sym (idle-code (toBytes (END ∷ [])) end-idle)
-    ∙ ap (λ c. runAfter runCode twoContact c (scan 1 0 0 10 ∷ []) .flags) (sym (h twoContact room (at .0))) ∙ flag in
+    ∙ ap (λ c. runAfter runCode twoContact c (brings 1 0 0 10 ∷ []) .flags) (sym (h twoContact room (at .0))) ∙ flag in
     omega arith
 
 no-code-left : (f : Translator) → Demand3 f runCode → WritesNothing f → ⊥
