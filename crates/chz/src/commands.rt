@@ -216,13 +216,24 @@ fn demo_scans(sheet: &[u8], all: &[u8], n: usize) -> u8 {
     play::tell_end(q, &page)
 }
 
+// The sheet's verdict and its code's size, as `check` and `translate` say them.
+fn demo_sizes(sheet: &[u8], length: usize) -> u8 {
+    let told = tell_verdict(sheet, sheet::check_sheet(sheet));
+    if told != status::ACCEPTED {
+        return told;
+    }
+    tell_translated(length)
+}
+
 pub fn demo_command() -> u8 {
     let sheet = demo::two_contact();
     let mut code = [0u8; 26028];
-    demo::introduce();
-    tell_verdict(&sheet, sheet::check_sheet(&sheet));
     let t = translate::translate(&sheet, &mut code);
     let length = t.length;
-    tell_translated(length);
+    demo::introduce();
+    let told = demo_sizes(&sheet, length);
+    if told != status::ACCEPTED {
+        return told;
+    }
     demo_scans(&sheet, &code, length)
 }

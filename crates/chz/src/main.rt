@@ -61,7 +61,7 @@ fn words_after(word: usize) -> usize {
     all - word - 1
 }
 
-fn help(fd: i32) {
+fn help(fd: i32) -> bool {
     io::write_all(
         fd,
         b"chz checks, translates and runs sheets: Boolean state machines for safety PLCs\n\n",
@@ -92,7 +92,15 @@ fn help(fd: i32) {
     io::write_all(
         fd,
         b"Exit status: 0 accepted, 1 refused, 2 a fault of usage, of a file or of a line of the trace.\n",
-    );
+    )
+}
+
+// The help that was asked for.
+fn help_command() -> u8 {
+    if help(libc::STDOUT_FILENO) {
+        return status::ACCEPTED;
+    }
+    status::file_fault(b"standard output")
 }
 
 fn version() -> u8 {
@@ -130,10 +138,7 @@ fn run_at(word: usize, first: usize, second: usize) -> u8 {
         } else {
             status::usage_fault(b"demo takes no file")
         },
-        Command::Help => {
-            help(libc::STDOUT_FILENO);
-            status::ACCEPTED
-        }
+        Command::Help => help_command(),
         Command::Version => version(),
         Command::Missing => no_command(),
         Command::Unknown => status::usage_fault(b"there is no such command"),
