@@ -91,7 +91,7 @@ num-two s at w last b e f l h x y = let low : at / 8 ≤ last = omega arith in �
         let bits : at % 8 + w + b ≡ 8 + 8 = omega arith in
         let second : numAt s (at / 8 * 8 + 8) 8 ≡ getD s last 0 = rw (← next) (num-byte s last y) in
         let all : numAt s (at / 8 * 8) (at % 8 + w + b) ≡ getD s (at / 8) 0 * 256 + getD s last 0 =
-            rw (bits, num-join s (at / 8 * 8) 8 8, num-byte s (at / 8) x, second) in
+        rw (bits, num-join s (at / 8 * 8) 8 8, num-byte s (at / 8) x, second) in
         rw (← all) (rw start at (num-cut s (at / 8 * 8) (at % 8) w b))
 
 -- a field is below its power

@@ -32,7 +32,10 @@ pub fn field(s: &[u8], c: Cursor, width: usize) -> Got
     let one: u64 = 1;
     if width <= 9 {
         let both = (s[at / 8] as u64) * 256 + (s[stop - 1] as u64);
-        return Got::Field(((both >> spare) % (one << width)) as u32, Cursor { at: end });
+        return Got::Field(
+            ((both >> spare) % (one << width)) as u32,
+            Cursor { at: end },
+        );
     }
     let mut i = at / 8;
     let mut all: u64 = 0;

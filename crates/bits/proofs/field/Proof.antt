@@ -85,7 +85,7 @@ cast-t25 c =
     (omega (arith, cut-fits ((getD s (at / 8) 0 * 256 + getD s ((at + w + 7) / 8 - 1) 0) / 2 ^ ((at + w + 7) / 8 * 8 - (at + w))) w (omega arith)))
 
 returns-2 : tie.Need-returns-2 Inv-loop μ-loop
-returns-2 c = 
+returns-2 c =
     let s = c .before .before .before .before .args .s .now in
     let at = c .before .before .before .before .args .c .at in
     let w = c .before .before .before .before .args .width in
@@ -124,7 +124,7 @@ loop-less : tie.Need-loop-less Inv-loop μ-loop
 loop-less c = omega arith
 
 loop-again : tie.Need-loop-again Inv-loop μ-loop
-loop-again c = 
+loop-again c =
     let a = c .before .before .before .before .before .args in
     let l = c .before .before .loop in
     let more : (l .i + 1 - a .c .at / 8) * 8 ≡ (l .i - a .c .at / 8) * 8 + 8 = omega arith in
@@ -148,7 +148,7 @@ cast-t37 c =
     rw (divisor w (omega arith)) (omega (arith, cut-fits (c .before .loop .all / 2 ^ ((at + w + 7) / 8 * 8 - (at + w))) w (omega arith)))
 
 returns-3 : tie.Need-returns-3 Inv-loop μ-loop
-returns-3 c = 
+returns-3 c =
     let s = c .before .before .before .before .args .s .now in
     let at = c .before .before .before .before .args .c .at in
     let w = c .before .before .before .before .args .width in
