@@ -1,12 +1,13 @@
 -- Laws of fields: the number at bits at .. at + w. Assumes nothing.
 use mathlib.Core.Path.{_≡_, refl, sym, ap, _∙_}
+use mathlib.Core.Logic.{⊎-elim}
 use mathlib.Core.List.{List}
 use Prim.Native.Nat.{ℕ, zero, suc, _+_, _*_, _-_, _/_, _%_, _^_, _≤_, _<_}
-use native.Mathlib.Nat.{mod-lt, two-pow-succ, pow-succ', add-suc, add-zero, mul-one, pow-zero, add-assoc, mul-assoc, mul-comm, le-of-suc-le, div-div-eq-div-mul}
+use native.Mathlib.Nat.{mod-lt, two-pow-succ, pow-succ', add-suc, add-zero, mul-one, pow-zero, add-assoc, mul-assoc, mul-comm, add-mul, le-of-suc-le, eq-or-lt-of-le, div-div-eq-div-mul}
 use native.Mathlib.Numerals.{add-one}
 use native.Mathlib.Omega.{arith}
 use lib.ListN.{length, getD}
-use lib.Pow.{high, low, pow-pos, shr-shr, pow-mono}
+use lib.Pow.{high, low, pow-pos, pow-add, shr-shr, pow-mono}
 use mathlib.Core.Bool.{Bool, true, false}
 use lib.Dec.{leb}
 use borrow.Author.Tests.{le-leb, lt-leb, leb-true, leb-false}
@@ -52,6 +53,46 @@ byte-part s i (suc k) j e h =
 -- a whole byte
 pub num-byte : (s : List ℕ) (i : ℕ) → getD s i 0 < 256 → numAt s (i * 8) 8 ≡ getD s i 0
 num-byte s i h = byte-part s i 8 0 refl h ∙ omega arith
+
+-- whatever stands above those bits is cut off
+cut-above : (y : ℕ) (s : List ℕ) (p a w b : ℕ) → (y * 2 ^ (a + w + b) + numAt s p (a + w + b)) / 2 ^ b % 2 ^ w ≡ numAt s (p + a) w
+cut-above y s p a w b =
+    rw (split, high ((y * 2 ^ a + numAt s p a) * 2 ^ w + numAt s (p + a) w) b (num-lt s (p + (a + w)) b))
+    (low (y * 2 ^ a + numAt s p a) w (num-lt s (p + a) w))
+  where
+    raised : (y * 2 ^ a + numAt s p a) * 2 ^ w + numAt s (p + a) w ≡ y * 2 ^ (a + w) + numAt s p (a + w)
+    raised = rw (num-join s p a w, pow-add 2 a w, ← mul-assoc y (2 ^ a) (2 ^ w)) (omega (arith, add-mul (y * 2 ^ a) (numAt s p a) (2 ^ w)))
+
+    split : y * 2 ^ (a + w + b) + numAt s p (a + w + b)
+        ≡ ((y * 2 ^ a + numAt s p a) * 2 ^ w + numAt s (p + a) w) * 2 ^ b + numAt s (p + (a + w)) b
+    split =
+        rw (raised, num-join s p (a + w) b, pow-add 2 (a + w) b, ← mul-assoc y (2 ^ (a + w)) (2 ^ b))
+        (omega (arith, add-mul (y * 2 ^ (a + w)) (numAt s p (a + w)) (2 ^ b)))
+
+cut-all : (y : ℕ) (s : List ℕ) (p a w b n : ℕ) → a + w + b ≡ n → (y * 2 ^ n + numAt s p n) / 2 ^ b % 2 ^ w ≡ numAt s (p + a) w
+cut-all y s p a w b n e = rw (← e) (cut-above y s p a w b)
+
+-- a field of at most 9 bits, cut out of its first and its last byte, which may be one
+pub num-two : (s : List ℕ) (at w last b : ℕ) → last ≡ (at + w + 7) / 8 - 1 → b ≡ (at + w + 7) / 8 * 8 - (at + w) → 1 ≤ w → w ≤ 9
+    → getD s (at / 8) 0 < 256 → getD s last 0 < 256 → (getD s (at / 8) 0 * 256 + getD s last 0) / 2 ^ b % 2 ^ w ≡ numAt s at w
+num-two s at w last b e f l h x y = let low : at / 8 ≤ last = omega arith in ⊎-elim one two (eq-or-lt-of-le low)
+  where
+    start : at / 8 * 8 + at % 8 ≡ at
+    start = omega arith
+
+    one : at / 8 ≡ last → (getD s (at / 8) 0 * 256 + getD s last 0) / 2 ^ b % 2 ^ w ≡ numAt s at w
+    one q =
+        let cut = cut-all (getD s (at / 8) 0) s (at / 8 * 8) (at % 8) w b 8 (omega arith) in
+        rw (← q) (rw (start, num-byte s (at / 8) x) at cut)
+
+    two : at / 8 < last → (getD s (at / 8) 0 * 256 + getD s last 0) / 2 ^ b % 2 ^ w ≡ numAt s at w
+    two q =
+        let next : last * 8 ≡ at / 8 * 8 + 8 = omega arith in
+        let bits : at % 8 + w + b ≡ 8 + 8 = omega arith in
+        let second : numAt s (at / 8 * 8 + 8) 8 ≡ getD s last 0 = rw (← next) (num-byte s last y) in
+        let all : numAt s (at / 8 * 8) (at % 8 + w + b) ≡ getD s (at / 8) 0 * 256 + getD s last 0 =
+        rw (bits, num-join s (at / 8 * 8) 8 8, num-byte s (at / 8) x, second) in
+        rw (← all) (rw start at (num-cut s (at / 8 * 8) (at % 8) w b))
 
 -- a field is below its power
 pub num-below : (s : List ℕ) (at : ℕ) {w k : ℕ} → w ≤ k → numAt s at w < 2 ^ k

@@ -17,6 +17,7 @@ pub enum Got {
 }
 
 // The field of `width` bits from the cursor on: whole bytes are gathered, at most four, and the field is cut out of them.
+// Up to 9 bits are in two bytes at most; a single byte is taken twice, since what stands above a field is cut off.
 pub fn field(s: &[u8], c: Cursor, width: usize) -> Got
     requires { ⌜ (c .at < 1000000) × (1 ≤ width) × (width ≤ 24) ⌝ }
     ensures { λ r. ⌜ r ≡ fieldAt (now (s .entry)) (c .at) width ⌝ }
@@ -27,14 +28,21 @@ pub fn field(s: &[u8], c: Cursor, width: usize) -> Got
     if s.len() < stop {
         return Got::Short;
     }
+    let spare = stop * 8 - end;
+    let one: u64 = 1;
+    if width <= 9 {
+        let both = (s[at / 8] as u64) * 256 + (s[stop - 1] as u64);
+        return Got::Field(
+            ((both >> spare) % (one << width)) as u32,
+            Cursor { at: end },
+        );
+    }
     let mut i = at / 8;
     let mut all: u64 = 0;
     while i < stop {
         all = all * 256 + (s[i] as u64);
         i += 1;
     }
-    let spare = stop * 8 - end;
-    let one: u64 = 1;
     Got::Field(((all >> spare) % (one << width)) as u32, Cursor { at: end })
 }
 

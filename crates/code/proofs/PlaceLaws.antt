@@ -44,6 +44,7 @@ place-fits s = go (endFault s) refl
   where
     is : List Word
     is = map decode (words s)
+
     go : (b : Bool) → endFault s ≡ b
         → placeOf (cond b (Refused refuse.CodeEnd)
         (refuseAt refuse.Word (firstFault (length (words s)) 0 0 (words s)) (refuseAt refuse.Landing (firstLanding is 0 is) Accepted))) ≤ 8192

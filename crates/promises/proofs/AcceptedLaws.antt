@@ -12,31 +12,20 @@ use Rattle.answer.specs.declared.Refusal.{Refusal}
 use Rattle.answer.specs.declared.Refusal.the-variants.{Room}
 use Rattle.answer.specs.declared.Checked.{Checked}
 use Rattle.answer.specs.declared.Checked.the-variants.{Accepted, Refused}
-use Rattle.bits.specs.Read.{Ans, ok, no}
+use Rattle.bits.specs.Read.{ok}
 use Rattle.reader.specs.Sheet.{Sheet}
 use Rattle.reader.specs.Reading.{readSheet}
-use Rattle.sheet.specs.Judging.{judge, judgeRead, checkSheet, judgedOr, readOr, withSheet}
+use Rattle.sheet.specs.Judging.{judge, checkSheet, withSheet}
 use Rattle.scan.specs.declared.State.{State}
 use Rattle.scan.specs.Scan.{accepted, refused, scanOf, coldOf, scanSheet, coldScan, zeros}
-use Rattle.translate.specs.Writing.{codeOf, Written, unwritten, writtenWith, translateInto, coldRecord, noRecord, coldRun}
+use Rattle.translate.specs.Writing.{codeOf, unwritten, writtenWith, translateInto, coldRecord, noRecord, coldRun}
 
 -- no answer is both
 pub accepted-refused : {c : Checked} {why : Refusal} → c ≡ Accepted → c ≡ Refused why → ⊥
 accepted-refused e f = let z : _≡_ {A = ℕ} 0 1 = cc in omega arith
 
--- a sheet that a public function goes on with is accepted by the check
-pub went-on : {B : Type 0} (verdict : B → Checked) (s : List ℕ) (refuse : Refusal → B) (go : Sheet → B)
-    → ((why : Refusal) → verdict (refuse why) ≡ Refused why) → verdict (withSheet s refuse go) ≡ Accepted → checkSheet s ≡ Accepted
-unfolding withSheet checkSheet
-went-on verdict s refuse go refuses h = by (readSheet s) h
-  where
-    on : (a : Sheet) (c : Checked) → verdict (judgedOr c refuse (go a)) ≡ Accepted → c ≡ Accepted
-    on a Accepted h = refl
-    on a (Refused why) h = absurd (accepted-refused h (refuses why))
-
-    by : (r : Ans Sheet) → verdict (readOr r refuse go) ≡ Accepted → judgeRead r ≡ Accepted
-    by (ok a end) h = on a (judge a) h
-    by (no why) h = absurd (accepted-refused h (refuses why))
+pub refused-is : {c d : Refusal} → Refused c ≡ Refused d → c ≡ d
+refused-is e = cc
 
 module _ (s : List ℕ) (a : Sheet) (end : ℕ) (read : readSheet s ≡ ok a end) (acc : checkSheet s ≡ Accepted) where
   judged : judge a ≡ Accepted
@@ -66,11 +55,6 @@ module _ (s : List ℕ) (a : Sheet) (end : ℕ) (read : readSheet s ≡ ok a end
       ≡ cond (leb (length (codeOf a)) (length buffer)) (writtenWith buffer (codeOf a)) (unwritten buffer (Room (length (codeOf a))))
   unfolding translateInto
   translate-is buffer = with-sheet (unwritten buffer) _
-
--- where the translator accepts, the check of the sheet does
-pub translator-accepted : (s buffer : List ℕ) → translateInto s buffer .answer .verdict ≡ Accepted → checkSheet s ≡ Accepted
-unfolding translateInto
-translator-accepted s buffer h = went-on (λ (w : Written). w .answer .verdict) s (unwritten buffer) _ (λ why. refl) h
 
 -- from the buffer's start: the code can be taken out again
 pub written-code : (buffer code : List ℕ) → length code ≤ length buffer → take (length code) (sets buffer 0 code) ≡ code

@@ -1,11 +1,16 @@
 -- The promises about bytes, closed with what crate rules proves of an accepted sheet. Assumes nothing.
-use mathlib.Core.Path.{_≡_, sym, ap, _∙_}
+use mathlib.Core.Path.{_≡_, refl, sym, ap, _∙_}
+use mathlib.Core.Bool.{Bool, true, false}
 use mathlib.Core.List.{List}
-use Prim.Native.Nat.{ℕ, _+_, _*_, _-_, _≤_, _<_}
-use lib.ListN.{length}
+use Prim.Native.Nat.{ℕ, _+_, _*_, _-_, _≤_, _<_, min}
+use native.Mathlib.Omega.{arith}
+use borrow.Author.Tests.{leb-true, leb-false, le-leb, lt-leb}
+use lib.Dec.{leb}
+use lib.ListN.{length, replicate, length-replicate}
 use Rattle.answer.specs.declared.Checked.the-variants.{Accepted}
 use Rattle.bits.specs.Read.{ok}
 use Rattle.bits.proofs.ReadLaws.{ok-is}
+use Rattle.reader.specs.Sheet.{transitionOf}
 use Rattle.reader.specs.Reading.{readSheet}
 use Rattle.rules.proofs.Acceptance.{accepted-rules}
 use Rattle.rules.proofs.Counting.{homes-few, pairs-few, weighed}
@@ -15,32 +20,36 @@ use Rattle.scan.specs.Scan.{scanOf, scanSheet}
 use Rattle.code.specs.Run.{runCode}
 use Rattle.translate.specs.declared.Cold.{Cold}
 use Rattle.translate.specs.Writing.{Written, codeOf, translateInto}
+use Rattle.promises.specs.Same.{embed}
 use Rattle.promises.specs.Moves.{MovesAsPublished, OneMove}
-use Rattle.promises.specs.Demand3.{codeIn, Demand3}
-use Rattle.promises.specs.Length.{LengthRule}
+use Rattle.promises.specs.Demand3.{refAfter, runAfter, codeIn, Demand3}
+use Rattle.promises.specs.Length.{wordsOf, LengthRule}
 use Rattle.promises.specs.Ignored.{InputsIgnored}
-use Rattle.promises.specs.Worthless.{NoInventedRoom}
-use Rattle.promises.proofs.AcceptedLaws.{translator-accepted, scan-is, cold-scan-is, cold-run-is}
+use Rattle.promises.specs.Held.{HeldChangesNone}
+use Rattle.promises.specs.Worthless.{NoInventedRoom, OneRunner}
+use Rattle.promises.proofs.AcceptedLaws.{scan-is, cold-scan-is, cold-run-is}
 use Rattle.promises.proofs.CheckProof.{check-code}
 use Rattle.promises.proofs.MovesProof.{moves-scan, moves-only}
-use Rattle.promises.proofs.Demand3Proof.{run-is, follows, code-in}
+use Rattle.promises.proofs.Demand3Proof.{run-is, follows, with-room, code-in}
 use Rattle.promises.proofs.LengthProof.{bytes-are, fitted, at-most}
 use Rattle.promises.proofs.IgnoredProof.{scan-ignores, run-ignores}
 use Rattle.promises.proofs.RefusalsProof.{refusals}
 
 -- DEMAND 3
 pub demand3 : Demand3 translateInto runCode
-demand3 s buffer h =
-    let acc : checkSheet s ≡ Accepted = translator-accepted s buffer h in
-    let r = accepted-rules s acc in
-    let code : codeIn (translateInto s buffer) ≡ codeOf (r .0) = code-in (r .0) (r .3) s (r .1) (r .2) acc buffer h in (
+demand3 s acc =
+    let r = accepted-rules s acc in (
       r .0,
       r .1,
       r .2,
-      rw code (check-code (r .0) (r .3)),
       ap (λ (v : Scanned). v .verdict) (cold-scan-is s (r .0) (r .1) (r .2) acc),
       ap (λ (v : Cold). v .verdict) (cold-run-is s (r .0) (r .1) (r .2) acc),
-      λ ticks. rw code (follows (r .0) (r .3) s (r .1) (r .2) acc ticks),
+      λ buffer h.
+          let code : codeIn (translateInto s buffer) ≡ codeOf (r .0) = code-in (r .0) (r .3) s (r .1) (r .2) acc buffer h in (
+            ap (λ (w : Written). w .answer .verdict) (with-room (r .0) (r .3) s (r .1) (r .2) acc buffer h),
+            rw code (check-code (r .0) (r .3)),
+            λ ticks. rw code (follows (r .0) (r .3) s (r .1) (r .2) acc ticks),
+          ),
     )
 
 pub moves-as-published : MovesAsPublished
@@ -79,6 +88,25 @@ inputs-ignored s acc =
       ),
     )
 
+-- a wait that is no larger than the hold
+held-same : (wait time : ℕ) → wait ≤ 16777215 → leb wait (min time 16777215) ≡ leb wait time
+held-same wait time few = go (leb wait time) refl
+  where
+    go : (b : Bool) → leb wait time ≡ b → leb wait (min time 16777215) ≡ b
+    go true e = le-leb wait (min time 16777215) (omega (arith, leb-true wait time e))
+    go false e = lt-leb wait (min time 16777215) (omega (arith, leb-false wait time e))
+
+pub held-changes-none : HeldChangesNone
+held-changes-none s acc =
+    let r = accepted-rules s acc in (
+      r .0,
+      r .1,
+      r .2,
+      λ i l.
+          let few : transitionOf (r .0) i .wait ≤ 16777215 = omega (arith, r .3 .fields i l .wait) in
+          (few, λ time. held-same (transitionOf (r .0) i .wait) time few),
+    )
+
 pub length-rule : LengthRule
 length-rule s acc =
     let r = accepted-rules s acc in (
@@ -96,3 +124,20 @@ no-invented-room f is s buffer place e other =
     let r = accepted-rules s (h .3) in
     let same : h .0 ≡ r .0 = ok-is (sym (h .2) ∙ r .2) in
     other (r .0, r .1, r .2, h .5 ∙ ap (λ a. length (codeOf a)) same ∙ bytes-are (r .0) (r .3))
+
+pub one-runner : OneRunner
+one-runner f d s acc =
+    let r = accepted-rules s acc in
+    let h = d s acc in
+    let same : h .0 ≡ r .0 = ok-is (sym (h .2) ∙ r .2) in
+    let room : List ℕ = replicate (4 * wordsOf (r .0)) 0 in
+    let long : 4 * wordsOf (r .0) ≤ length room = omega (arith, length-replicate {A = ℕ} (4 * wordsOf (r .0)) 0) in
+    let code : codeIn (translateInto s room) ≡ codeOf (r .0) = code-in (r .0) (r .3) s (r .1) (r .2) acc room long in (
+      r .0,
+      r .1,
+      r .2,
+      λ ticks.
+          let it : runAfter f s (codeIn (translateInto s room)) ticks ≡ embed (refAfter s ticks) =
+          h .5 room (omega (arith, ap wordsOf same)) .2 ticks .same in
+          rw code at it ∙ sym (follows (r .0) (r .3) s (r .1) (r .2) acc ticks .same),
+    )

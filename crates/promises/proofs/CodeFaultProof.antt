@@ -8,16 +8,17 @@ use native.Mathlib.Omega.{arith}
 use native.Mathlib.Nat.{zero-add, add-zero, add-suc, suc-add}
 use borrow.Author.Tests.{eqb-true, eq-eqb, ltb-true, lt-ltb}
 use lib.Dec.{eqb, ltb}
-use lib.ListN.{length, getD, length-map}
+use lib.ListN.{length, getD, length-map, List·getD-map}
 use Rattle.answer.specs.declared.Refusal.the-variants as refuse
 use Rattle.answer.specs.declared.Checked.{Checked}
 use Rattle.answer.specs.declared.Checked.the-variants.{Accepted, Refused}
 use Rattle.answer.specs.declared.Found.{Found}
 use Rattle.answer.specs.declared.Found.the-variants.{At, Nothing}
 use Rattle.answer.specs.Lowest.{refuseAt}
-use Rattle.code.specs.Word.{Word, END, decode, words}
+use Rattle.code.specs.Word.{Word, END, known, decode, words}
 use Rattle.code.specs.Check.{endFault, opens, faulty, unknown, hereOr, firstFault, depthAt, landsOpen, firstLanding, checkCode}
 use Rattle.promises.specs.Refusals.{Lowest, CodeFault, code-end, word, landing}
+use Rattle.promises.proofs.WordFaultProof.{or-of, word-fault, landing-fault}
 use Rattle.promises.proofs.LowestLaws.{FirstOf, From, lowest-end, lowest-step, lowest-all}
 
 -- a test of places in a list, one place further on
@@ -77,10 +78,6 @@ landing-first code pc (i ∷ is) =
     first-from pc (length is) (λ j. landsOpen code (getD (i ∷ is) j END)) (landsOpen code i) refl (firstLanding code (suc pc) is) (landing-first code (suc pc) is)
 
 -- the four reasons of CODE-END
-or-of : (a b : Bool) → a || b ≡ true → (a ≡ true) ⊎ (b ≡ true)
-or-of true b e = inl refl
-or-of false b e = inr e
-
 four : (a b c d : Bool) → (a ≡ true) ⊎ ((b ≡ true) ⊎ ((c ≡ true) ⊎ (d ≡ true))) → a || b || c || d ≡ true
 four true b c d h = refl
 four false true c d h = refl
@@ -145,6 +142,11 @@ module _ (s : List ℕ) where
   abbrev opened : ℕ → Bool
   opened p = landsOpen is (getD is p END)
 
+  -- a word of the code as it is read
+  at-word : (p : ℕ) → getD is p END ≡ decode (getD ws p 0)
+  unfolding decode known
+  at-word p = List·getD-map decode ws p 0
+
   landing-of : FirstOf opened (length is) (firstLanding is 0 is)
   landing-of = from-zero opened (length is) (firstLanding is 0 is) (landing-first is 0 is)
 
@@ -152,27 +154,27 @@ module _ (s : List ℕ) where
   end-test : (p : ℕ) → CodeFault s 15 p → (p < 1) × (endFault s ≡ true)
   end-test p (code-end n z h) = (omega arith, end-of h)
   end-test p (word n l e) = absurd (omega arith)
-  end-test p (landing n l e) = absurd (omega arith)
+  end-test p (landing n l e o) = absurd (omega arith)
 
   word-test : (p : ℕ) → CodeFault s 16 p → (p < length ws) × (fault p ≡ true)
   word-test p (code-end n z h) = absurd (omega arith)
-  word-test p (word n l e) = (l, e)
-  word-test p (landing n l e) = absurd (omega arith)
+  word-test p (word n l e) = (l, word-fault (length ws) p (depthAt 0 is p) (getD ws p 0) .1 e)
+  word-test p (landing n l e o) = absurd (omega arith)
 
   landing-test : (p : ℕ) → CodeFault s 17 p → (p < length is) × (opened p ≡ true)
   landing-test p (code-end n z h) = absurd (omega arith)
   landing-test p (word n l e) = absurd (omega arith)
-  landing-test p (landing n l e) = (rw (length-map ws decode) l, e)
+  landing-test p (landing n l e o) = (rw (length-map ws decode) l, rw (at-word p) (landing-fault is (getD ws p 0) .1 (e, o)))
 
   from-15 : (n p : ℕ) → CodeFault s n p → 15 ≤ n
   from-15 n p (code-end k z h) = omega arith
   from-15 n p (word k l e) = omega arith
-  from-15 n p (landing k l e) = omega arith
+  from-15 n p (landing k l e o) = omega arith
 
   to-17 : (n p : ℕ) → 18 ≤ n → CodeFault s n p → ⊥
   to-17 n p h (code-end k z g) = omega arith
   to-17 n p h (word k l e) = omega arith
-  to-17 n p h (landing k l e) = omega arith
+  to-17 n p h (landing k l e o) = omega arith
 
   abbrev seventeen : Checked
   seventeen = refuseAt refuse.Landing (firstLanding is 0 is) Accepted
@@ -182,12 +184,12 @@ module _ (s : List ℕ) where
 
   low-17 : Lowest (From (CodeFault s) 17) seventeen
   low-17 =
-      lowest-step (CodeFault s) 17 refuse.Landing opened (length is) (λ i l e. (refl, refl, landing refl (rw (length-map ws decode) at l) e)) landing-test
+      lowest-step (CodeFault s) 17 refuse.Landing opened (length is) (λ i l e. let h = landing-fault is (getD ws i 0) .0 (rw (at-word i) at e) in (refl, refl, landing refl (rw (length-map ws decode) at l) (h .0) (h .1))) landing-test
       (firstLanding is 0 is) landing-of Accepted (lowest-end (CodeFault s) 18 to-17)
 
   low-16 : Lowest (From (CodeFault s) 16) sixteen
   low-16 =
-      lowest-step (CodeFault s) 16 refuse.Word fault (length ws) (λ i l e. (refl, refl, word refl l e)) word-test (firstFault (length ws) 0 0 ws) word-first seventeen
+      lowest-step (CodeFault s) 16 refuse.Word fault (length ws) (λ i l e. (refl, refl, word refl l (word-fault (length ws) i (depthAt 0 is i) (getD ws i 0) .0 e))) word-test (firstFault (length ws) 0 0 ws) word-first seventeen
       low-17
 
   pub code-lowest : Lowest (CodeFault s) (checkCode s)

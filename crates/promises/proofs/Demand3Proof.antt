@@ -1,14 +1,13 @@
 -- Demand 3, for a sheet that keeps the rules.
 use mathlib.Core.Path.{_≡_, refl, sym, ap, _∙_}
-use mathlib.Core.Bool.{Bool, true, false, cond}
+use mathlib.Core.Bool.{cond}
 use mathlib.Core.List.{List, [], _∷_}
-use Prim.Native.Nat.{ℕ, _+_, _^_, min}
+use Prim.Native.Nat.{ℕ, _+_, _*_, _^_, _≤_, min}
 use native.Mathlib.Omega.{arith}
-use borrow.Author.Tests.{eq-eqb, ne-eqb, leb-true}
-use lib.Dec.{eqb, leb}
+use borrow.Author.Tests.{eq-eqb, ne-eqb, le-leb}
+use lib.Dec.{eqb}
 use lib.ListN.{length}
 use Rattle.answer.specs.declared.Checked.the-variants.{Accepted}
-use Rattle.answer.specs.declared.Refusal.the-variants.{Room}
 use Rattle.bits.specs.Read.{ok}
 use Rattle.bits.specs.Word.{getBit}
 use Rattle.bits.proofs.WordLaws.{bit-pow}
@@ -26,20 +25,22 @@ use Rattle.code.specs.Machine.{Out}
 use Rattle.code.specs.Run.{runCode}
 use Rattle.translate.specs.declared.Cold.{Cold}
 use Rattle.translate.specs.Translation.{translate}
-use Rattle.translate.specs.Writing.{codeOf, Written, unwritten, writtenWith, translateInto, coldRecord}
+use Rattle.translate.specs.Writing.{codeOf, writtenWith, translateInto, coldRecord}
 use Rattle.code.proofs.WordLaws.{decode-map}
-use Rattle.promises.specs.Same.{embed, Good}
+use Rattle.promises.specs.Same.{embed, Fits}
 use Rattle.promises.specs.Moves.{Moves, fires, stays}
+use Rattle.promises.specs.Length.{wordsOf}
 use Rattle.promises.specs.Demand3.{Tick, refAfter, runAfter, sinceChange, codeIn, Follows}
-use Rattle.promises.proofs.AcceptedLaws.{accepted-refused, scan-is, cold-scan-is, cold-run-is, translate-is, written-code}
+use Rattle.promises.proofs.AcceptedLaws.{scan-is, cold-scan-is, cold-run-is, translate-is, written-code}
 use Rattle.promises.proofs.CheckProof.{fit, code-words, check-code}
 use Rattle.promises.proofs.HomeProof.{off-home}
+use Rattle.promises.proofs.LengthProof.{bytes-are}
 use Rattle.promises.proofs.MovesProof.{moves-scan}
-use Rattle.promises.proofs.SameProof.{scan-same, scan-good}
+use Rattle.promises.proofs.SameProof.{Shows, shows-fits, scan-same, scan-shows}
 
 module _ (a : Sheet) (rules : Rules a) where
   -- a scan of the code's bytes
-  pub run-is : (q : State) → Good a q → (x e : ℕ) → runCode (codeOf a) (embed q) x e ≡ record { verdict = Accepted; «record» = embed (scanOf a q x e) }
+  pub run-is : (q : State) → Fits a q → (x e : ℕ) → runCode (codeOf a) (embed q) x e ≡ record { verdict = Accepted; «record» = embed (scanOf a q x e) }
   unfolding runCode
   run-is q g x e =
       rw (check-code a rules, code-words a rules, decode-map (translate a) (fit a rules))
@@ -62,21 +63,21 @@ module _ (a : Sheet) (rules : Rules a) where
   module _ (s : List ℕ) (end : ℕ) (read : readSheet s ≡ ok a end) (acc : checkSheet s ≡ Accepted) where
     -- where the two stand after some scans
     record Stands (ticks : List Tick) : Type 0 where
-      good : Good a (refAfter s ticks)
+      good : Shows a rules (refAfter s ticks)
       same : runAfter runCode s (codeOf a) ticks ≡ embed (refAfter s ticks)
       clock : refAfter s ticks .clock ≡ min (sinceChange s ticks) 16777215
 
     -- the reference's next record
-    next : (ticks : List Tick) (t : Tick) → Good a (refAfter s ticks) → refAfter s (t ∷ ticks) ≡ scanOf a (refAfter s ticks) (t .word) (t .elapsed)
+    next : (ticks : List Tick) (t : Tick) → Shows a rules (refAfter s ticks) → refAfter s (t ∷ ticks) ≡ scanOf a (refAfter s ticks) (t .word) (t .elapsed)
     unfolding refAfter
     next ticks t g = ap (λ (v : Scanned). v .«record») (scan-is s a end read acc (refAfter s ticks) (g .active) (t .word) (t .elapsed))
 
     -- and the runner's
-    next-run : (ticks : List Tick) (t : Tick) → Good a (refAfter s ticks) → runAfter runCode s (codeOf a) ticks ≡ embed (refAfter s ticks)
+    next-run : (ticks : List Tick) (t : Tick) → Shows a rules (refAfter s ticks) → runAfter runCode s (codeOf a) ticks ≡ embed (refAfter s ticks)
         → runAfter runCode s (codeOf a) (t ∷ ticks) ≡ embed (scanOf a (refAfter s ticks) (t .word) (t .elapsed))
     unfolding runAfter
     next-run ticks t g e =
-        ap (λ r. runCode (codeOf a) r (t .word) (t .elapsed) .«record») e ∙ ap (λ (v : Ran). v .«record») (run-is (refAfter s ticks) g (t .word) (t .elapsed))
+        ap (λ r. runCode (codeOf a) r (t .word) (t .elapsed) .«record») e ∙ ap (λ (v : Ran). v .«record») (run-is (refAfter s ticks) (shows-fits a rules (refAfter s ticks) g) (t .word) (t .elapsed))
 
     cold : refAfter s [] ≡ coldOf a
     unfolding refAfter
@@ -90,7 +91,7 @@ module _ (a : Sheet) (rules : Rules a) where
     unfolding runAfter
     cold-run = ap (λ (v : Cold). v .«record») (cold-run-is s a end read acc) ∙ sym cold-embed ∙ ap embed (sym cold)
 
-    cold-good : Good a (coldOf a)
+    cold-good : Shows a rules (coldOf a)
     unfolding coldOf
     cold-good = record { active = omega (arith, rules .states .0); shown = refl }
 
@@ -98,7 +99,7 @@ module _ (a : Sheet) (rules : Rules a) where
     unfolding coldOf sinceChange
     cold-clock = refl
 
-    clocks : (ticks : List Tick) (t : Tick) → Good a (refAfter s ticks) → refAfter s ticks .clock ≡ min (sinceChange s ticks) 16777215
+    clocks : (ticks : List Tick) (t : Tick) → Shows a rules (refAfter s ticks) → refAfter s ticks .clock ≡ min (sinceChange s ticks) 16777215
         → refAfter s (t ∷ ticks) .clock ≡ min (sinceChange s (t ∷ ticks)) 16777215
     unfolding sinceChange
     clocks ticks t g k =
@@ -111,7 +112,7 @@ module _ (a : Sheet) (rules : Rules a) where
       where
         step : Stands ticks → Stands (t ∷ ticks)
         step h = record {
-          good = rw (next ticks t (h .good)) (scan-good a rules (refAfter s ticks) (h .good) (t .word) (t .elapsed));
+          good = rw (next ticks t (h .good)) (scan-shows a rules (refAfter s ticks) (h .good) (t .word) (t .elapsed));
           same = next-run ticks t (h .good) (h .same) ∙ ap embed (sym (next ticks t (h .good)));
           clock = clocks ticks t (h .good) (h .clock);
         }
@@ -124,8 +125,9 @@ module _ (a : Sheet) (rules : Rules a) where
         by h = record {
           scan-accepted = λ t. ap (λ (v : Scanned). v .verdict) (scan-is s a end read acc (refAfter s ticks) (h .good .active) (t .word) (t .elapsed));
           run-accepted = λ t. ap (λ r. runCode (codeOf a) r (t .word) (t .elapsed) .verdict) (h .same)
-              ∙ ap (λ (v : Ran). v .verdict) (run-is (refAfter s ticks) (h .good) (t .word) (t .elapsed));
+              ∙ ap (λ (v : Ran). v .verdict) (run-is (refAfter s ticks) (shows-fits a rules (refAfter s ticks) (h .good)) (t .word) (t .elapsed));
           state = h .good .active;
+          same = h .same;
           flag = ap (λ (r : Record). r .flags) (h .same);
           one = λ i. ap (λ (r : Record). getBit (r .flags) i) (h .same) ∙ bit-pow (refAfter s ticks .state) i;
           row = ap (λ (r : Record). r .outputs) (h .same) ∙ h .good .shown;
@@ -134,12 +136,11 @@ module _ (a : Sheet) (rules : Rules a) where
               ∙ ap (λ n. 2 ^ n) (off-home a rules (refAfter s ticks) (h .good .active) (t .word) (t .elapsed) off);
         }
 
-    -- what the translator leaves in the buffer is the code
-    pub code-in : (buffer : List ℕ) → translateInto s buffer .answer .verdict ≡ Accepted → codeIn (translateInto s buffer) ≡ codeOf a
-    code-in buffer h = go (leb (length (codeOf a)) (length buffer)) refl (translate-is s a end read acc buffer)
-      where
-        go : (b : Bool) → leb (length (codeOf a)) (length buffer) ≡ b
-            → translateInto s buffer ≡ cond b (writtenWith buffer (codeOf a)) (unwritten buffer (Room (length (codeOf a))))
-            → codeIn (translateInto s buffer) ≡ codeOf a
-        go true e is = ap codeIn is ∙ written-code buffer (codeOf a) (leb-true (length (codeOf a)) (length buffer) e)
-        go false e is = absurd (accepted-refused h (ap (λ (w : Written). w .answer .verdict) is))
+    -- with room the translator accepts, and what it leaves in the buffer is the code
+    pub with-room : (buffer : List ℕ) → 4 * wordsOf a ≤ length buffer → translateInto s buffer ≡ writtenWith buffer (codeOf a)
+    with-room buffer h =
+        translate-is s a end read acc buffer
+        ∙ rw (le-leb (length (codeOf a)) (length buffer) (omega (arith, bytes-are a rules))) refl
+
+    pub code-in : (buffer : List ℕ) → 4 * wordsOf a ≤ length buffer → codeIn (translateInto s buffer) ≡ codeOf a
+    code-in buffer h = ap codeIn (with-room buffer h) ∙ written-code buffer (codeOf a) (omega (arith, bytes-are a rules))

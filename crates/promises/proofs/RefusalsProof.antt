@@ -21,13 +21,10 @@ use Rattle.scan.specs.declared.Scanned.{Scanned}
 use Rattle.scan.specs.Scan.{accepted, refused, scanOf, scanSheet}
 use Rattle.translate.specs.Writing.{Written, codeOf, unwritten, writtenWith, translateInto}
 use Rattle.promises.specs.Refusals.{Lowest, SheetFault, Unread, Refusals}
-use Rattle.promises.proofs.AcceptedLaws.{accepted-refused, with-sheet, translate-is}
+use Rattle.promises.proofs.AcceptedLaws.{accepted-refused, refused-is, with-sheet, translate-is}
 use Rattle.promises.proofs.JudgeProof.{to-13, judge-lowest}
 use Rattle.promises.proofs.CodeFaultProof.{code-lowest}
 use Rattle.promises.proofs.ReadProof.{unread}
-
-refused-is : {c d : Refusal} → Refused c ≡ Refused d → c ≡ d
-refused-is e = cc
 
 -- reading gives 1 to 6
 unread-number : (s : List ℕ) (why : Refusal) → Unread s why → number why ≤ 6

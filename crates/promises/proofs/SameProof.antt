@@ -20,7 +20,7 @@ use Rattle.code.specs.Machine.{out, exec, runScan, withClock, withFlags, flagTo
 use Rattle.translate.specs.Translation.{sort, blockLen, blocksLen, stateBlocks, stateAt, endAt, translate}
 use Rattle.translate.proofs.LengthLaws.{sort-blocksLen, states-length, all-rows}
 use Rattle.translate.proofs.SortLaws.{best-first}
-use Rattle.promises.specs.Same.{embed, Good, spent, leaving, executed, Same}
+use Rattle.promises.specs.Same.{embed, Fits, spent, leaving, executed, Same}
 use Rattle.promises.proofs.RunLaws.{fires, moved, landed, blocks-run, hop, state-run}
 
 module _ (a : Sheet) (rules : Rules a) where
@@ -33,7 +33,7 @@ module _ (a : Sheet) (rules : Rules a) where
   unfolding endAt stateAt
   end-of = rw (states-length (endAt a) (a .outputs) (a .rows) (all-rows a (rules .rows) (rules .row)), rules .rows) refl
 
-  module _ (q : State) (good : Good a q) (x c : ℕ) where
+  module _ (q : State) (good : Fits a q) (x c : ℕ) where
     now : Record
     now = withClock (embed q) c
 
@@ -54,8 +54,7 @@ module _ (a : Sheet) (rules : Rules a) where
     unfolding outputsOf
     outputs-are d lt =
         let ld : length (rowOf a d) ≡ a .outputs = rules .row d lt in
-        let ls : length (rowOf a (q .state)) ≡ a .outputs = rules .row (q .state) (good .active) in
-        put-all (q .outputs) (rowOf a d) (rw (good .shown, ld) (rw ls at (word-lt (rowOf a (q .state)))))
+        put-all (q .outputs) (rowOf a d) (rw ld (good .within))
 
     low : (d : ℕ) → blocksLen (a .transitions) ≤ stateAt a d
     unfolding stateAt
@@ -95,12 +94,22 @@ module _ (a : Sheet) (rules : Rules a) where
   unfolding runScan scanOf embed now executed
   scan-same q good x e = code-run q good x (onward (q .clock) e)
 
-  -- a scan leads from a record of the sheet to another one
-  pub scan-good : (q : State) → Good a q → (x e : ℕ) → Good a (scanOf a q x e)
+  -- a record that shows its state's row fits, and a scan leads to another one
+  pub record Shows (q : State) : Type 0 where
+    pub active : q .state < a .states
+    pub shown : q .outputs ≡ outputsOf a (q .state)
+
+  pub shows-fits : (q : State) → Shows q → Fits a q
+  unfolding outputsOf
+  shows-fits q g =
+      let l : length (rowOf a (q .state)) ≡ a .outputs = rules .row (q .state) (g .active) in
+      record { active = g .active; within = rw (g .shown) (rw l at (word-lt (rowOf a (q .state)))) }
+
+  pub scan-shows : (q : State) → Shows q → (x e : ℕ) → Shows (scanOf a q x e)
   unfolding scanOf after
-  scan-good q g x e = go (best (q .state) x (onward (q .clock) e) (a .transitions)) (best-on (q .state) x (onward (q .clock) e) (λ t. t .destination < a .states) (a .transitions) targets)
+  scan-shows q g x e = go (best (q .state) x (onward (q .clock) e) (a .transitions)) (best-on (q .state) x (onward (q .clock) e) (λ t. t .destination < a .states) (a .transitions) targets)
     where
-      go : (ch : Choice) → OnChoice (λ t. (t .destination < a .states) × (can (q .state) x (onward (q .clock) e) t ≡ true)) ch → Good a (after a q (onward (q .clock) e) ch)
+      go : (ch : Choice) → OnChoice (λ t. (t .destination < a .states) × (can (q .state) x (onward (q .clock) e) t ≡ true)) ch → Shows (after a q (onward (q .clock) e) ch)
       go none h = record { active = g .active; shown = g .shown }
       go (some t) h = record { active = h .0; shown = refl }
 

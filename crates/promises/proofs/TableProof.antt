@@ -115,17 +115,8 @@ unfolding sheetM bytes code11 translateInto withSheet readSheet readHeader rowAt
     waitCode block key insert sort blocks rowCode stateBlocks blockLen blocksLen wordCount stateAt endAt twoSheet twoRows twoArcs scanOf after best can eval
     outputsOf runScan exec flagTo outTo
 table = record {
-  p1 = sheets.table .p1;
-  p2 = sheets.table .p2;
-  p3 = sheets.table .p3;
+  sheets = sheets.table;
   p3-bits = (_, refl);
-  p4 = sheets.table .p4;
-  p5 = sheets.table .p5;
-  p6 = sheets.table .p6;
-  p7 = sheets.table .p7;
-  p8 = sheets.table .p8;
-  p9 = sheets.table .p9;
-  p10 = sheets.table .p10;
   p11 = refl;
   p11-room = (refl, refl);
   p11-untouched = refl;

@@ -1,20 +1,21 @@
 -- Worthless programs fail: each at a sheet, a buffer and a scan.
 use mathlib.Core.Path.{_≡_, refl, sym, ap, _∙_}
-use mathlib.Core.Bool.{true}
+use mathlib.Core.Bool.{true, _||_, or-true}
 use mathlib.Core.List.{List, [], _∷_}
-use Prim.Native.Nat.{ℕ, _*_, _^_}
+use Prim.Native.Nat.{ℕ, zero, suc, _*_, _^_, _-_, _%_, _≤_}
 use native.Mathlib.Omega.{arith}
-use borrow.Author.Tests.{le-leb}
-use lib.Dec.{leb}
-use lib.ListN.{length, getD, take, replicate}
+use lib.Dec.{eqb, ltb}
+use lib.ListN.{length, getD, take, replicate, length-replicate, getD-replicate}
 use Rattle.answer.specs.declared.Refusal.the-variants.{Short, CodeEnd}
 use Rattle.answer.specs.declared.Checked.the-variants.{Accepted, Refused}
 use Rattle.answer.specs.Lowest.{anyBelow, firstBelow}
 use Rattle.bits.specs.Field.{fieldAt, numAt, bitAt}
-use Rattle.bits.specs.Read.{upto}
+use Rattle.bits.specs.Read.{ok, upto}
 use Rattle.bits.specs.Word.{getBit, wordOf, bitsOf}
-use Rattle.condition.specs.Cond.{eval, isOn, isOff, isGated}
+use Rattle.bits.proofs.ReadLaws.{ok-is}
+use Rattle.condition.specs.Cond.{eval, isOn, isOff, isGated, wordCount}
 use Rattle.condition.specs.Reading.{condAt, operandsAt, inputAt}
+use Rattle.reader.specs.Sheet.{Sheet}
 use Rattle.reader.specs.Reading.{readHeader, rowAt, transitionAt, endsAt, readSheet}
 use Rattle.sheet.specs.Judging.{clashes, lacksHome, judge, checkSheet, withSheet}
 use Rattle.sheet.specs.Table.{sheetM}
@@ -26,13 +27,12 @@ use Rattle.code.specs.Machine.{exec, runScan}
 use Rattle.code.specs.Check.{endFault, opens, faulty, unknown, firstFault, depthAt, landsOpen, firstLanding, checkCode}
 use Rattle.code.specs.Run.{runCode}
 use Rattle.code.specs.Worked.{bytes, code11}
-use Rattle.translate.specs.declared.Translated.{Translated}
 use Rattle.translate.specs.Writing.{Written, codeOf, translateInto, coldRecord, coldRun}
-use Rattle.translate.proofs.LengthLaws.{code-bytes}
-use Rattle.promises.specs.Demand3.{Tick, Translator, Runner, refAfter, runAfter, sinceChange, codeIn, Demand3}
-use Rattle.promises.specs.Table.{twoContact, twoRows, twoArcs, twoSheet, scan, flag, state}
-use Rattle.promises.specs.Worthless.{HandsBack, RightAtFirst, Worthless}
-use Rattle.promises.proofs.AcceptedLaws.{accepted-refused, translate-is}
+use Rattle.promises.specs.Length.{wordsOf}
+use Rattle.promises.specs.Demand3.{Tick, Translator, Runner, refAfter, runAfter, sinceChange, codeIn, Follows, Demand3}
+use Rattle.promises.specs.Table.{twoContact, twoRows, twoArcs, twoSheet, brings, flag, state}
+use Rattle.promises.specs.Worthless.{WritesEnd, WritesNothing, HandsBack, RightAtFirst, Worthless}
+use Rattle.promises.proofs.AcceptedLaws.{accepted-refused}
 use Rattle.promises.proofs.TableProof.{two-read, two-accepted, two-checked, two-scan, cold-state, cold-flag, table}
 
 -- the checkers
@@ -44,39 +44,50 @@ no-code : checkCode [] ≡ Refused CodeEnd
 unfolding checkCode endFault
 no-code = refl
 
--- M, with room for its code, and the translator's answer
+-- M, with room for its code, and what the translator leaves
 abbrev M : List ℕ
 M = sheetM 0x08 0x20 0x80
 
 abbrev room : List ℕ
 room = replicate 64 0xFF
 
-m-accepted : translateInto M room .answer .verdict ≡ Accepted
-m-accepted = ap (λ (w : Written). w .answer .verdict) (table .p11)
+m-accepted : checkSheet M ≡ Accepted
+unfolding checkSheet sheetM readSheet readHeader rowAt upto transitionAt endsAt judge clashes lacksHome anyBelow firstBelow condAt operandsAt inputAt
+    fieldAt numAt bitAt getBit bitsOf isOn isOff isGated
+m-accepted = refl
+
+m-read : (a : Sheet) × (readSheet M ≡ ok a 71) × (wordsOf a ≡ 16)
+unfolding sheetM wordsOf wordCount readSheet readHeader rowAt upto transitionAt endsAt condAt operandsAt inputAt fieldAt numAt bitAt getBit bitsOf
+m-read = (_, refl, refl)
+
+m-fits : (a : Sheet) (end : ℕ) → readSheet M ≡ ok a end → 4 * wordsOf a ≤ 64
+m-fits a end e =
+    let same : m-read .0 ≡ a = ok-is (sym (m-read .1) ∙ e) in
+    omega (arith, ap wordsOf same, m-read .2)
 
 m-code : codeIn (translateInto M room) ≡ bytes code11
 unfolding bytes code11 bytesOf
 m-code = ap codeIn (table .p11)
 
 -- the two-contact sheet's room
-two-length : length (codeOf twoSheet) ≡ 1084
-two-length = code-bytes twoSheet ∙ ap (λ n. 4 * n) (table .two-sizes .2)
+two-words : wordsOf twoSheet ≡ 271
+unfolding wordsOf wordCount twoSheet twoRows twoArcs
+two-words = refl
 
-two-answer : (buffer : List ℕ) → length buffer ≡ 1084 → translateInto twoContact buffer .answer ≡ record { verdict = Accepted; length = 1084 }
-two-answer buffer h =
-    let fits : leb (length (codeOf twoSheet)) (length buffer) ≡ true = le-leb (length (codeOf twoSheet)) (length buffer) (omega (arith, two-length)) in
-    ap (λ (w : Written). w .answer) (translate-is twoContact twoSheet 1319 two-read two-accepted buffer)
-    ∙ rw fits (ap (λ n. record { verdict = Accepted; length = n }) two-length)
+two-fits : (a : Sheet) (end : ℕ) → readSheet twoContact ≡ ok a end → 4 * wordsOf a ≤ 1084
+two-fits a end e =
+    let same : twoSheet ≡ a = ok-is (sym two-read ∙ e) in
+    omega (arith, ap wordsOf same, two-words)
 
 -- the first scan of P12, by the reference
-two-moves : refAfter twoContact (scan 1 0 0 10 ∷ []) .state ≡ 1
+two-moves : refAfter twoContact (brings 1 0 0 10 ∷ []) .state ≡ 1
 unfolding refAfter scanOf after best can eval getBit outputsOf wordOf twoSheet twoRows twoArcs
 two-moves =
     ap (λ q. scanSheet twoContact q 1 10 .«record» .state) cold-state
     ∙ ap (λ (v : Scanned). v .«record» .state) (two-scan (state 0 1 0) (omega arith) 1 10)
 
 -- code that begins with END leaves the flags
-idle-code : (code : List ℕ) → runCode code (flag 1 1 0) 1 10 .«record» .flags ≡ 1 → runAfter runCode twoContact code (scan 1 0 0 10 ∷ []) .flags ≡ 1
+idle-code : (code : List ℕ) → runCode code (flag 1 1 0) 1 10 .«record» .flags ≡ 1 → runAfter runCode twoContact code (brings 1 0 0 10 ∷ []) .flags ≡ 1
 unfolding runAfter
 idle-code code h = ap (λ r. runCode code r 1 10 .«record» .flags) cold-flag ∙ h
 
@@ -85,19 +96,45 @@ unfolding runCode checkCode endFault opens faulty unknown firstFault depthAt lan
     runScan exec
 end-idle = refl
 
-zeros-idle : runCode (replicate 1084 0) (flag 1 1 0) 1 10 .«record» .flags ≡ 1
-unfolding runCode checkCode endFault opens faulty unknown firstFault depthAt landsOpen firstLanding codeNo operand wordNo known decode words runScan exec
-zeros-idle = refl
+-- bytes FF are no code, however many of them are taken
+abbrev ff : ℕ → List ℕ
+ff m = replicate m 0xFF
 
--- so demand 3 fails with it
-never-moves : (f : Translator) (buffer code : List ℕ) → Demand3 f runCode → f twoContact buffer .answer .verdict ≡ Accepted
-    → codeIn (f twoContact buffer) ≡ code → runCode code (flag 1 1 0) 1 10 .«record» .flags ≡ 1 → ⊥
-never-moves f buffer code d acc is idle =
-    let follows = d twoContact buffer acc .6 (scan 1 0 0 10 ∷ []) in
-    let two : runAfter runCode twoContact (codeIn (f twoContact buffer)) (scan 1 0 0 10 ∷ []) .flags ≡ 2 = follows .flag ∙ ap (λ n. 2 ^ n) two-moves in
-    let one : runAfter runCode twoContact code (scan 1 0 0 10 ∷ []) .flags ≡ 1 = idle-code code idle in
-    let z : _≡_ {A = ℕ} 1 2 = sym one ∙ ap (λ c. runAfter runCode twoContact c (scan 1 0 0 10 ∷ []) .flags) (sym is) ∙ two in
+all-ff : (n m : ℕ) → (k : ℕ) × (take n (ff m) ≡ ff k)
+all-ff zero m = (0, refl)
+all-ff (suc n) zero = (0, refl)
+all-ff (suc n) (suc m) = let h = all-ff n m in (suc (h .0), ap (λ (l : List ℕ). 0xFF ∷ l) (h .1))
+
+ff-end : (n : ℕ) → endFault (ff n) ≡ true
+unfolding endFault
+ff-end zero = refl
+ff-end (suc n) =
+    let last : getD (ff (suc n)) (length (ff (suc n)) - 4) 0 ≡ 0xFF =
+    getD-replicate (suc n) (length (ff (suc n)) - 4) 0xFF 0 (omega (arith, length-replicate {A = ℕ} n 0xFF)) in
+    rw last (or-true (eqb (length (ff (suc n))) 0 || ltb 32768 (length (ff (suc n))) || ltb 0 (length (ff (suc n)) % 4)))
+
+ff-refused : (n m : ℕ) → checkCode (take n (ff m)) ≡ Accepted → ⊥
+unfolding checkCode
+ff-refused n m h = accepted-refused {why = CodeEnd} h (rw (all-ff n m .1, ff-end (all-ff n m .0)) refl)
+
+-- demand 3 fails with a translator that leaves one of these
+never-moves : (f : Translator) → Demand3 f runCode → WritesEnd f → ⊥
+never-moves f d h =
+    let two = d twoContact two-accepted in
+    let room : List ℕ = replicate 1084 0 in
+    let at = two .5 room (two-fits (two .0) (two .1) (two .2)) in
+    let flag : runAfter runCode twoContact (codeIn (f twoContact room)) (brings 1 0 0 10 ∷ []) .flags ≡ 2 =
+    at .2 (brings 1 0 0 10 ∷ []) .flag ∙ ap (λ n. 2 ^ n) two-moves in
+    let z : _≡_ {A = ℕ} 1 2 =
+    sym (idle-code (toBytes (END ∷ [])) end-idle)
+    ∙ ap (λ c. runAfter runCode twoContact c (brings 1 0 0 10 ∷ []) .flags) (sym (h twoContact room (at .0))) ∙ flag in
     omega arith
+
+no-code-left : (f : Translator) → Demand3 f runCode → WritesNothing f → ⊥
+no-code-left f d h =
+    let m = d M m-accepted in
+    let at = m .5 room (m-fits (m .0) (m .1) (m .2)) in
+    ff-refused (f M room .answer .length) 64 (rw (h M room) at (at .1))
 
 -- the runner: M from cold, 10 ms with activation on
 tick : Tick
@@ -117,13 +154,17 @@ module _ (f : Runner) (d : Demand3 translateInto f) where
   code : List ℕ
   code = codeIn (translateInto M room)
 
+  follows : (ticks : List Tick) → (a : Sheet) × Follows f M a code ticks
+  unfolding code
+  follows ticks = let m = d M m-accepted in (m .0, m .5 room (m-fits (m .0) (m .1) (m .2)) .2 ticks)
+
   clock-10 : runAfter f M code (tick ∷ []) .clock ≡ 10
   unfolding code
-  clock-10 = d M room m-accepted .6 (tick ∷ []) .clock ∙ rw (m-since .0) refl
+  clock-10 = follows (tick ∷ []) .1 .clock ∙ rw (m-since .0) refl
 
   clock-20 : runAfter f M code (tick ∷ tick ∷ []) .clock ≡ 20
   unfolding code
-  clock-20 = d M room m-accepted .6 (tick ∷ tick ∷ []) .clock ∙ rw (m-since .1) refl
+  clock-20 = follows (tick ∷ tick ∷ []) .1 .clock ∙ rw (m-since .1) refl
 
   back : HandsBack f → ⊥
   unfolding runAfter
@@ -146,24 +187,15 @@ worthless = record {
   code-refused = λ f is h. accepted-refused (is (codeOf twoSheet) ∙ two-checked) (h (codeOf twoSheet) .1);
   code-accepted = λ f is h. accepted-refused (h []) (is [] ∙ no-code);
   only-end = λ f is h.
-      let acc : f M room .answer .verdict ≡ Accepted = h M room .0 ∙ m-accepted in
-      let z : _≡_ {A = ℕ} 4 64 = sym (ap length (h M room .1 acc)) ∙ ap (λ w. length (codeIn w)) (is M room) ∙ ap length m-code in
+      let acc : f M room .answer .verdict ≡ Accepted = ap (λ (w : Written). w .answer .verdict) (is M room ∙ table .p11) in
+      let z : _≡_ {A = ℕ} 4 64 = sym (ap length (h M room acc)) ∙ ap (λ w. length (codeIn w)) (is M room) ∙ ap length m-code in
       omega arith;
-  only-end-3 = λ f d h.
-      let right : translateInto twoContact (replicate 1084 0) .answer .verdict ≡ Accepted =
-      ap (λ (t : Translated). t .verdict) (two-answer (replicate 1084 0) refl) in
-      let acc : f twoContact (replicate 1084 0) .answer .verdict ≡ Accepted = h twoContact (replicate 1084 0) .0 ∙ right in
-      never-moves f (replicate 1084 0) (toBytes (END ∷ [])) d acc (h twoContact (replicate 1084 0) .1 acc) end-idle;
+  only-end-3 = never-moves;
   nothing = λ f is h.
       let z : _≡_ {A = ℕ} 255 1 =
-      ap (λ (b : List ℕ). getD b 0 0) (sym (h M room .1) ∙ ap (λ (w : Written). w .buffer) (is M room ∙ table .p11)) in
+      ap (λ (b : List ℕ). getD b 0 0) (sym (h M room) ∙ ap (λ (w : Written). w .buffer) (is M room ∙ table .p11)) in
       omega arith;
-  nothing-3 = λ f d h.
-      let right : f twoContact (replicate 1084 0) .answer ≡ record { verdict = Accepted; length = 1084 } =
-      h twoContact (replicate 1084 0) .0 ∙ two-answer (replicate 1084 0) refl in
-      let code : codeIn (f twoContact (replicate 1084 0)) ≡ replicate 1084 0 =
-      ap (λ (t : Translated). take (t .length) (f twoContact (replicate 1084 0) .buffer)) right ∙ ap (take 1084) (h twoContact (replicate 1084 0) .1) in
-      never-moves f (replicate 1084 0) (replicate 1084 0) d (ap (λ (t : Translated). t .verdict) right) code zeros-idle;
+  nothing-3 = no-code-left;
   hands-back = λ f d h. back f d h;
   first-only = λ f d h. once f d h;
 }

@@ -3,20 +3,23 @@
 use mathlib.Core.Path.{_≡_}
 use mathlib.Core.Bool.{false, cond}
 use mathlib.Core.List.{List, [], _∷_}
-use Prim.Native.Nat.{ℕ, _+_, _^_, _<_, min}
+use Prim.Native.Nat.{ℕ, _+_, _*_, _^_, _≤_, _<_, min}
 use lib.Dec.{eqb}
-use lib.ListN.{take}
+use lib.ListN.{length, take}
 use Rattle.answer.specs.declared.Checked.the-variants.{Accepted}
 use Rattle.bits.specs.Read.{ok}
 use Rattle.bits.specs.Word.{getBit}
 use Rattle.reader.specs.Sheet.{Sheet}
 use Rattle.reader.specs.Reading.{readSheet}
+use Rattle.sheet.specs.Judging.{checkSheet}
 use Rattle.scan.specs.declared.State.{State}
 use Rattle.scan.specs.Scan.{outputsOf, scanSheet, coldScan}
 use Rattle.code.specs.declared.Record.{Record}
 use Rattle.code.specs.declared.Ran.{Ran}
 use Rattle.code.specs.Check.{checkCode}
 use Rattle.translate.specs.Writing.{Written, coldRun}
+use Rattle.promises.specs.Same.{embed}
+use Rattle.promises.specs.Length.{wordsOf}
 
 -- "A scan brings a 16-bit input word .. and elapsed ms, any 32-bit number"
 pub record Tick : Type 0 where
@@ -53,8 +56,9 @@ pub record Follows (run : Runner) (s : List ℕ) (a : Sheet) (code : List ℕ) (
   -- the next scan is accepted, whatever it brings, by the reference and by the runner
   pub scan-accepted : (t : Tick) → scanSheet s (refAfter s ticks) (t .word) (t .elapsed) .verdict ≡ Accepted
   pub run-accepted : (t : Tick) → run code (runAfter run s code ticks) (t .word) (t .elapsed) .verdict ≡ Accepted
-  -- the reference is in one of the n states
+  -- the reference is in one of the n states, and the runner has the reference's record, with the state's flag for its number
   pub state : refAfter s ticks .state < a .states
+  pub same : runAfter run s code ticks ≡ embed (refAfter s ticks)
   -- that state's flag is set, and no other
   pub flag : runAfter run s code ticks .flags ≡ 2 ^ refAfter s ticks .state
   pub one : (i : ℕ) → getBit (runAfter run s code ticks .flags) i ≡ eqb i (refAfter s ticks .state)
@@ -65,13 +69,15 @@ pub record Follows (run : Runner) (s : List ℕ) (a : Sheet) (code : List ℕ) (
   -- a scan with input 0, activation, off ends in state 0
   pub home : (t : Tick) → getBit (t .word) 0 ≡ false → runAfter run s code (t ∷ ticks) .flags ≡ 1
 
--- where the translator accepts a sheet, the sheet can be read, the code passes the check of code, both cold starts are accepted, and the two go
--- together for ever
+-- any accepted sheet: it can be read and both cold starts are accepted; and with any buffer that has room for its code, the translator accepts it,
+-- the code that it leaves passes the check of code, and the two go together for ever
 abbrev pub Demand3 : Translator → Runner → Type 0
 Demand3 translator run =
-    (s buffer : List ℕ) → translator s buffer .answer .verdict ≡ Accepted
+    (s : List ℕ) → checkSheet s ≡ Accepted
     → (a : Sheet) × (end : ℕ) × (readSheet s ≡ ok a end)
-    × (checkCode (codeIn (translator s buffer)) ≡ Accepted)
     × (coldScan s .verdict ≡ Accepted)
     × (coldRun s .verdict ≡ Accepted)
-    × ((ticks : List Tick) → Follows run s a (codeIn (translator s buffer)) ticks)
+    × ((buffer : List ℕ) → 4 * wordsOf a ≤ length buffer
+    → (translator s buffer .answer .verdict ≡ Accepted)
+    × (checkCode (codeIn (translator s buffer)) ≡ Accepted)
+    × ((ticks : List Tick) → Follows run s a (codeIn (translator s buffer)) ticks))

@@ -1,9 +1,13 @@
 pub mod Same
 pub mod Moves
-pub mod Demand3
 pub mod Length
+pub mod Demand3
 pub mod Ignored
 pub mod Table
 pub mod Worthless
 pub mod Single
+pub mod WordFaults
+pub mod Fields
 pub mod Refusals
+pub mod Left
+pub mod Held

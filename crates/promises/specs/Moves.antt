@@ -15,7 +15,7 @@ use Rattle.scan.specs.declared.State.{State}
 use Rattle.scan.specs.Scan.{outputsOf, scanSheet}
 use Rattle.code.specs.Run.{runCode}
 use Rattle.translate.specs.Writing.{codeOf}
-use Rattle.promises.specs.Same.{embed, Good}
+use Rattle.promises.specs.Same.{embed, Fits}
 
 -- t is a transition of the sheet
 abbrev pub Of : Sheet → Transition → Type 0
@@ -52,11 +52,11 @@ MovesAsPublished =
     × Moves a q word (onward (q .clock) elapsed) (scanSheet s q word elapsed .«record»)
     × ((p : State) → Moves a q word (onward (q .clock) elapsed) p → p ≡ scanSheet s q word elapsed .«record»))
 
--- and so does one scan of the code, from the runner's record of a reference record of the sheet: it makes one published move, and no other
+-- and so does one scan of the code, from the runner's record of any reference record that fits the sheet: it makes one published move, and no other
 abbrev pub OneMove : Type 0
 OneMove =
     (s : List ℕ) → checkSheet s ≡ Accepted
     → (a : Sheet) × (end : ℕ) × (readSheet s ≡ ok a end)
-    × ((q : State) → Good a q → (word elapsed : ℕ)
+    × ((q : State) → Fits a q → (word elapsed : ℕ)
     → (p : State) × (runCode (codeOf a) (embed q) word elapsed ≡ record { verdict = Accepted; «record» = embed p })
     × Moves a q word (onward (q .clock) elapsed) p)

@@ -1,8 +1,8 @@
 -- "Numbers answered, with places": what each number means where it is answered, in the words of the table.
 use mathlib.Core.Path.{_≡_}
 use mathlib.Core.Logic.{_⊎_, _↔_}
-use mathlib.Core.Bool.{Bool, true, false, _||_}
-use mathlib.Core.List.{List, map}
+use mathlib.Core.Bool.{false}
+use mathlib.Core.List.{List, [], _∷_, map}
 use Prim.Native.Nat.{ℕ, _+_, _*_, _-_, _/_, _%_, _≤_, _<_}
 use lib.Dec.{eqb}
 use lib.ListN.{length, getD}
@@ -12,18 +12,18 @@ use Rattle.answer.specs.declared.Checked.{Checked}
 use Rattle.answer.specs.declared.Checked.the-variants.{Accepted, Refused}
 use Rattle.answer.specs.Number.{number, place}
 use Rattle.bits.specs.Field.{numAt}
-use Rattle.bits.specs.Read.{ok, no, upto}
-use Rattle.condition.specs.Reading.{Counted, condAt}
-use Rattle.reader.specs.Sheet.{Transition, Sheet, count, transitionOf, rowOf}
-use Rattle.reader.specs.Reading.{readHeader, rowAt, transitionAt, readSheet}
-use Rattle.reader.specs.declared.Header.{Header}
+use Rattle.bits.specs.Read.{ok, no}
+use Rattle.reader.specs.Sheet.{Sheet, count, transitionOf, rowOf}
+use Rattle.reader.specs.Reading.{readSheet}
 use Rattle.rules.specs.Rules.{HomeForm, Gated}
 use Rattle.sheet.specs.Judging.{checkSheet}
 use Rattle.scan.specs.declared.State.{State}
 use Rattle.scan.specs.Scan.{scanSheet}
-use Rattle.code.specs.Word.{END, decode, words}
-use Rattle.code.specs.Check.{faulty, unknown, depthAt, landsOpen, checkCode}
+use Rattle.code.specs.Word.{decode, words}
+use Rattle.code.specs.Check.{depthAt, checkCode}
 use Rattle.translate.specs.Writing.{codeOf, translateInto}
+use Rattle.promises.specs.WordFaults.{OneOf, WordFault}
+use Rattle.promises.specs.Fields.{Field, states, source, destination, tag, input, rest, width, Whole, Begins, nOf, kOf}
 
 -- "the lowest number first, and within it the lowest place": an answer to faults, each with a number and a place
 abbrev pub Lowest : (ℕ → ℕ → Type 0) → Checked → Type 0
@@ -51,53 +51,41 @@ pub data SheetFault (a : Sheet) (n p : ℕ) : Type 0 where
   -- "output 0 is false in state 0 or true in another"; the state
   activity : n ≡ 13 → p < a .states → (getD (rowOf a p) 0 false ≡ eqb p 0 → ⊥) → SheetFault a n p
 
+-- "8 bits of code, 24 of operand", of a word as a number
+abbrev pub codeByte : ℕ → ℕ
+codeByte w = w / 16777216
+
+abbrev pub operandOf : ℕ → ℕ
+operandOf w = w % 16777216
+
 -- 15 to 17, of code
 pub data CodeFault (s : List ℕ) (n p : ℕ) : Type 0 where
   -- "code is empty, over 32,768 bytes, not a multiple of 4, or the code byte of its last word isn't 0"; 0
   code-end : n ≡ 15 → p ≡ 0
       → (length s ≡ 0) ⊎ ((32768 < length s) ⊎ ((0 < length s % 4) ⊎ (0 < getD s (length s - 4) 0))) → CodeFault s n p
-  -- "a word is at fault": it is no word, or faulty with the parentheses open before it; the word
+  -- "a word is at fault", with the parentheses open before it; the word
   word : n ≡ 16 → p < length (words s)
-      → (unknown (getD (words s) p 0) || faulty (length (words s)) p (depthAt 0 (map decode (words s)) p) (decode (getD (words s) p 0))) ≡ true
-      → CodeFault s n p
+      → WordFault (length (words s)) p (depthAt 0 (map decode (words s)) p) (codeByte (getD (words s) p 0)) (operandOf (getD (words s) p 0)) → CodeFault s n p
   -- "a parenthesis is open just before a jump's target word"; the word of the jump
-  landing : n ≡ 17 → p < length (words s) → landsOpen (map decode (words s)) (getD (map decode (words s)) p END) ≡ true → CodeFault s n p
+  landing : n ≡ 17 → p < length (words s) → OneOf (codeByte (getD (words s) p 0)) (12 ∷ 13 ∷ [])
+      → 0 < depthAt 0 (map decode (words s)) (operandOf (getD (words s) p 0)) → CodeFault s n p
 
--- Of a condition that begins at bit c: the node whose tag is at a bit, with so many nodes before it, at a depth; "a lone input is 1 deep"
-pub data NodeAt (s : List ℕ) (k c : ℕ) : ℕ → ℕ → ℕ → Type 0 where
-  top : NodeAt s k c 0 1 c
-  -- behind a tag other than 00 stands the first operand, and behind that, if the tag is 10 or 11, the second
-  operand : (seen depth at : ℕ) → NodeAt s k c seen depth at → (numAt s at 2 ≡ 0 → ⊥) → NodeAt s k c (seen + 1) (depth + 1) (at + 2)
-  second : (seen depth at : ℕ) → NodeAt s k c seen depth at → 2 ≤ numAt s at 2
-      → (room : ℕ) (first : Counted) (next : ℕ) → condAt room s k (seen + 1) (at + 2) ≡ ok first next → NodeAt s k c (first .count) (depth + 1) next
-
--- header, rows and transitions are read, and the bit after them is this one
-pub record ReadUpTo (s : List ℕ) (bit : ℕ) : Type 0 where
-  pub header : Header
-  pub rows : List (List Bool)
-  pub transitions : List Transition
-  pub after-header : ℕ
-  pub after-rows : ℕ
-  pub header-read : readHeader s ≡ ok header after-header
-  pub rows-read : upto (rowAt s (header .outputs)) after-header (header .states) ≡ ok rows after-rows
-  pub transitions-read : upto (transitionAt s (header .states) (header .inputs)) after-rows (header .transitions) ≡ ok transitions bit
-
--- 1 to 6, of bytes that can't be read: what is found at the place
+-- 1 to 6, of bytes that can't be read: the field that begins at the place, and what is found there
 abbrev pub Unread : List ℕ → Refusal → Type 0
--- "a field isn't wholly there": a field of at most 24 bits begins here, at most at the end, and goes past it
-Unread s (refuse.Short bit) = (w : ℕ) × (w ≤ 24) × (bit ≤ length s * 8) × (length s * 8 < bit + w)
--- "states field is 0"
-Unread s refuse.OneState = numAt s 0 5 ≡ 0
--- "a transition names a state n or above"
-Unread s (refuse.StateNo bit) = numAt s 0 5 + 1 ≤ numAt s bit 5
--- "a condition names an input k or above"
-Unread s (refuse.InputNo bit) = numAt s 5 4 + 1 ≤ numAt s bit 4
--- "a 32nd node, or a node at depth 9": its tag is there
+-- "a field isn't wholly there"; its first bit
+Unread s (refuse.Short bit) = (f : Field) × Begins s f bit × (length s * 8 < bit + width s f)
+-- "states field is 0"; 0
+Unread s refuse.OneState = Whole s states 0 × (numAt s 0 5 ≡ 0)
+-- "a transition names a state n or above"; first bit of that field
+Unread s (refuse.StateNo bit) = (i : ℕ) × (Begins s (source i) bit ⊎ Begins s (destination i) bit) × (bit + 5 ≤ length s * 8) × (nOf s ≤ numAt s bit 5)
+-- "a condition names an input k or above"; first bit of the number
+Unread s (refuse.InputNo bit) = (i : ℕ) × Begins s (input i) bit × Whole s (input i) bit × (kOf s ≤ numAt s bit 4)
+-- "a 32nd node, or a node at depth 9"; first bit of its tag
 Unread s (refuse.Big bit) =
-    (c : ℕ) × (seen : ℕ) × (depth : ℕ) × NodeAt s (numAt s 5 4 + 1) c seen depth bit × (bit + 2 ≤ length s * 8) × ((31 ≤ seen) ⊎ (depth ≡ 9))
--- "a spare bit is 1, or a further byte follows", behind all that is to be read
+    (i seen depth : ℕ) × Begins s (tag i seen depth) bit × Whole s (tag i seen depth) bit × ((31 ≤ seen) ⊎ (depth ≡ 9))
+-- "a spare bit is 1, or a further byte follows"; first bit after the last condition
 Unread s (refuse.Tail bit) =
-    ReadUpTo s bit × ((length s ≡ (bit + 7) / 8 → ⊥) ⊎ (numAt s bit ((bit + 7) / 8 * 8 - bit) ≡ 0 → ⊥))
+    Begins s rest bit × ((length s ≡ (bit + 7) / 8 → ⊥) ⊎ (numAt s bit ((bit + 7) / 8 * 8 - bit) ≡ 0 → ⊥))
 -- reading gives no other number
 Unread s (refuse.Loop transition) = ⊥
 Unread s (refuse.Pair transition) = ⊥

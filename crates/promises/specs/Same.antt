@@ -6,7 +6,7 @@ use Prim.Native.Nat.{ℕ, _+_, _^_, _<_}
 use Rattle.clock.specs.Onward.{onward}
 use Rattle.reader.specs.Sheet.{Transition, Sheet}
 use Rattle.scan.specs.declared.State.{State}
-use Rattle.scan.specs.Scan.{Choice, none, some, can, best, outputsOf, scanOf}
+use Rattle.scan.specs.Scan.{Choice, none, some, can, best, scanOf}
 use Rattle.code.specs.declared.Record.{Record}
 use Rattle.code.specs.Machine.{out, runScan}
 use Rattle.translate.specs.Translation.{sort, blockLen, translate}
@@ -16,10 +16,10 @@ use Rattle.translate.specs.Translation.{sort, blockLen, translate}
 unfoldable pub embed : State → Record
 embed q = record { flags = 2 ^ q .state; outputs = q .outputs; clock = q .clock }
 
--- a reference record of the sheet: a state that there is, with its row
-pub record Good (a : Sheet) (q : State) : Type 0 where
+-- a reference record that fits the sheet: a state that there is, and outputs below l alone
+pub record Fits (a : Sheet) (q : State) : Type 0 where
   pub active : q .state < a .states
-  pub shown : q .outputs ≡ outputsOf a (q .state)
+  pub within : q .outputs < 2 ^ a .outputs
 
 -- the words executed in the blocks of these transitions: all of each block up to and with the first that fires
 unfoldable pub spent : (Transition → Bool) → List Transition → ℕ
@@ -39,5 +39,5 @@ executed a q word elapsed =
 -- the same record comes out of both, with any input word and any elapsed time
 abbrev pub Same : Sheet → Type 0
 Same a =
-    (q : State) → Good a q → (word elapsed : ℕ)
+    (q : State) → Fits a q → (word elapsed : ℕ)
     → runScan (translate a) (embed q) word elapsed ≡ out (embed (scanOf a q word elapsed)) (executed a q word elapsed)

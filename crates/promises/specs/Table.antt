@@ -1,8 +1,8 @@
 -- "Sheets and scans worked by hand": P1 to P14 and the two lines behind them, in one table; what is said of scans is said of the reference, from
--- the sheet's bytes, and of the runner, from the code's bytes.
+-- the sheet's bytes, and of the runner, from the code's bytes. P1 to P10 stand with the check of sheets, and are a part of this table.
 use mathlib.Core.Path.{_≡_}
 use mathlib.Core.Bool.{Bool, true, false}
-use mathlib.Core.List.{List, [], _∷_, _++_}
+use mathlib.Core.List.{List, [], _∷_}
 use Prim.Native.Nat.{ℕ, _+_, _*_}
 use lib.ListN.{length, replicate}
 use Rattle.answer.specs.Number.{numberOf, placeOf}
@@ -13,7 +13,8 @@ use Rattle.condition.specs.Cond.{Cond, inp, neg, conj, disj}
 use Rattle.reader.specs.Sheet.{Transition, Sheet, count}
 use Rattle.reader.specs.Reading.{readSheet}
 use Rattle.sheet.specs.Judging.{checkSheet}
-use Rattle.sheet.specs.Table.{sheetM, Is}
+use Rattle.sheet.specs.Table as sheets
+use Rattle.sheet.specs.Table.{sheetM}
 use Rattle.scan.specs.declared.State.{State}
 use Rattle.scan.specs.Scan.{scanSheet, coldScan}
 use Rattle.code.specs.declared.Record.{Record}
@@ -100,8 +101,8 @@ unfoldable pub twoSheet : Sheet
 twoSheet = record { states = 9; inputs = 3; outputs = 4; rows = twoRows; transitions = twoArcs }
 
 -- "scans as Activate A B/ms"
-abbrev pub scan : ℕ → ℕ → ℕ → ℕ → Tick
-scan activate a b ms = record { word = activate + 2 * a + 4 * b; elapsed = ms }
+abbrev pub brings : ℕ → ℕ → ℕ → ℕ → Tick
+brings activate a b ms = record { word = activate + 2 * a + 4 * b; elapsed = ms }
 
 -- the records after each of some scans in order: of the reference, and of the runner
 unfoldable pub scans : List ℕ → State → List Tick → List State
@@ -126,31 +127,20 @@ Gives q r t p u =
     × (runCode (codeOf twoSheet) r (t .word) (t .elapsed) ≡ record { verdict = Accepted; «record» = u })
 
 -- an answer has this number and this place
-abbrev pub Answers : Checked → ℕ → ℕ → Type 0
-Answers c number place = (numberOf c ≡ number) × (placeOf c ≡ place)
+abbrev pub Numbered : Checked → ℕ → ℕ → Type 0
+Numbered c number place = (numberOf c ≡ number) × (placeOf c ≡ place)
 
 pub record Table : Type 0 where
-  -- "P1: no bytes: 1 at 0. P2: 00: 2 at 0."
-  pub p1 : Is [] 1 0
-  pub p2 : Is (0x00 ∷ []) 2 0
+  -- P1 to P10 are its rows `p1` to `p10`: "P1: no bytes: 1 at 0. P2: 00: 2 at 0. P3: M is accepted. P4: M with last byte 81: 6 at 71. P5: M and a
+  -- tenth byte 00: 6 at 71. P6: the first eight bytes of M: 1 at 63. P7: M with byte 3 as 40: 3 at 22. P8: byte 3 as 00: 7 at 0. P9: M with byte 2 as
+  -- 00: 13 at 0. P10: last byte 82: 4 at 67."
+  pub sheets : sheets.Table
   -- "P3: M is accepted, 71 bits."
-  pub p3 : Is (sheetM 0x08 0x20 0x80) 0 0
   pub p3-bits : (a : Sheet) × (readSheet (sheetM 0x08 0x20 0x80) ≡ ok a 71)
-  -- "P4: M with last byte 81: 6 at 71. P5: M and a tenth byte 00: 6 at 71."
-  pub p4 : Is (sheetM 0x08 0x20 0x81) 6 71
-  pub p5 : Is (sheetM 0x08 0x20 0x80 ++ 0x00 ∷ []) 6 71
-  -- "P6: the first eight bytes of M: 1 at 63."
-  pub p6 : Is (0x08 ∷ 0x00 ∷ 0x08 ∷ 0x20 ∷ 0x00 ∷ 0x00 ∷ 0x00 ∷ 0x00 ∷ []) 1 63
-  -- "P7: M with byte 3 as 40: 3 at 22. P8: byte 3 as 00: 7 at 0."
-  pub p7 : Is (sheetM 0x08 0x40 0x80) 3 22
-  pub p8 : Is (sheetM 0x08 0x00 0x80) 7 0
-  -- "P9: M with byte 2 as 00: 13 at 0. P10: last byte 82: 4 at 67."
-  pub p9 : Is (sheetM 0x00 0x20 0x80) 13 0
-  pub p10 : Is (sheetM 0x08 0x20 0x82) 4 67
   -- "P11: M gives 16 words: .. With 63 bytes of room: 14, place 64."
   pub p11 : translateInto (sheetM 0x08 0x20 0x80) (replicate 64 0xFF)
       ≡ record { answer = record { verdict = Accepted; length = 64 }; buffer = bytes code11 }
-  pub p11-room : Answers (translateInto (sheetM 0x08 0x20 0x80) (replicate 63 0xFF) .answer .verdict) 14 64
+  pub p11-room : Numbered (translateInto (sheetM 0x08 0x20 0x80) (replicate 63 0xFF) .answer .verdict) 14 64
   pub p11-untouched : translateInto (sheetM 0x08 0x20 0x80) (replicate 63 0xFF) .buffer ≡ replicate 63 0xFF
   -- the two-contact sheet: "25 transitions, 1,319 bits, 165 bytes and 271 words of code"
   pub two-read : readSheet twoContact ≡ ok twoSheet 1319
@@ -160,19 +150,19 @@ pub record Table : Type 0 where
   -- clock 0; 111/10 state 5, clock 10; 100/10 state 1; 111/10 state 8; 011/5 state 0."
   pub p12 :
       scans twoContact (coldScan twoContact .«record») (
-      scan 1 0 0 10 ∷ scan 1 1 0 10 ∷ scan 1 1 0 99 ∷ scan 1 1 0 1 ∷ scan 1 1 1 10 ∷ scan 1 0 0 10 ∷ scan 1 1 1 10 ∷ scan 0 1 1 5 ∷ []
+      brings 1 0 0 10 ∷ brings 1 1 0 10 ∷ brings 1 1 0 99 ∷ brings 1 1 0 1 ∷ brings 1 1 1 10 ∷ brings 1 0 0 10 ∷ brings 1 1 1 10 ∷ brings 0 1 1 5 ∷ []
       )
       ≡ state 1 2 0 ∷ state 3 2 0 ∷ state 3 2 99 ∷ state 5 10 0 ∷ state 5 10 10 ∷ state 1 2 0 ∷ state 8 6 0 ∷ state 0 1 0 ∷ []
   pub p12-code :
       runs (codeOf twoSheet) (coldRun twoContact .«record») (
-      scan 1 0 0 10 ∷ scan 1 1 0 10 ∷ scan 1 1 0 99 ∷ scan 1 1 0 1 ∷ scan 1 1 1 10 ∷ scan 1 0 0 10 ∷ scan 1 1 1 10 ∷ scan 0 1 1 5 ∷ []
+      brings 1 0 0 10 ∷ brings 1 1 0 10 ∷ brings 1 1 0 99 ∷ brings 1 1 0 1 ∷ brings 1 1 1 10 ∷ brings 1 0 0 10 ∷ brings 1 1 1 10 ∷ brings 0 1 1 5 ∷ []
       )
       ≡ flag 2 2 0 ∷ flag 8 2 0 ∷ flag 8 2 99 ∷ flag 32 10 0 ∷ flag 32 10 10 ∷ flag 2 2 0 ∷ flag 256 6 0 ∷ flag 1 1 0 ∷ []
   -- "P13: from state 3 with clock 99, 111/1 gives 5. P14: from state 3 with clock 99, 111/0 gives 8."
-  pub p13 : Gives (state 3 2 99) (flag 8 2 99) (scan 1 1 1 1) (state 5 10 0) (flag 32 10 0)
-  pub p14 : Gives (state 3 2 99) (flag 8 2 99) (scan 1 1 1 0) (state 8 6 0) (flag 256 6 0)
+  pub p13 : Gives (state 3 2 99) (flag 8 2 99) (brings 1 1 1 1) (state 5 10 0) (flag 32 10 0)
+  pub p14 : Gives (state 3 2 99) (flag 8 2 99) (brings 1 1 1 0) (state 8 6 0) (flag 256 6 0)
   -- "From cold, 111/10 gives state 1 and not 8."
-  pub cold-all : Gives (state 0 1 0) (flag 1 1 0) (scan 1 1 1 10) (state 1 2 0) (flag 2 2 0)
+  pub cold-all : Gives (state 0 1 0) (flag 1 1 0) (brings 1 1 1 10) (state 1 2 0) (flag 2 2 0)
   pub cold-is : (coldScan twoContact .«record» ≡ state 0 1 0) × (coldRun twoContact .«record» ≡ flag 1 1 0)
   -- "In state 0, 011/50 stays and the clock reads 50 more."
-  pub idle : Gives (state 0 1 7) (flag 1 1 7) (scan 0 1 1 50) (state 0 1 57) (flag 1 1 57)
+  pub idle : Gives (state 0 1 7) (flag 1 1 7) (brings 0 1 1 50) (state 0 1 57) (flag 1 1 57)

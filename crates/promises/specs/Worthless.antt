@@ -7,13 +7,16 @@ use Rattle.answer.specs.declared.Refusal.{Refusal}
 use Rattle.answer.specs.declared.Refusal.the-variants.{Room}
 use Rattle.answer.specs.declared.Checked.{Checked}
 use Rattle.answer.specs.declared.Checked.the-variants.{Accepted, Refused}
+use Rattle.bits.specs.Read.{ok}
+use Rattle.reader.specs.Sheet.{Sheet}
+use Rattle.reader.specs.Reading.{readSheet}
 use Rattle.sheet.specs.Judging.{checkSheet}
 use Rattle.code.specs.declared.Record.{Record}
 use Rattle.code.specs.Word.{END, toBytes}
 use Rattle.code.specs.Check.{checkCode}
 use Rattle.code.specs.Run.{runCode}
-use Rattle.translate.specs.Writing.{translateInto}
-use Rattle.promises.specs.Demand3.{Translator, Runner, codeIn, Demand3}
+use Rattle.translate.specs.Writing.{codeOf, translateInto}
+use Rattle.promises.specs.Demand3.{Tick, Translator, Runner, runAfter, codeIn, Demand3}
 use Rattle.promises.specs.Length.{LengthOf}
 
 -- the contracts of the two checkers and of the translator
@@ -33,14 +36,12 @@ RefusesAll f = (s : List ℕ) → (why : Refusal) × (f s ≡ Refused why)
 abbrev pub AcceptsAll : (List ℕ → Checked) → Type 0
 AcceptsAll f = (s : List ℕ) → f s ≡ Accepted
 
--- translators that accept and refuse as they should, and leave one END, or no byte at all
+-- translators that leave END alone wherever they accept, or no byte at all, whatever they answer
 abbrev pub WritesEnd : Translator → Type 0
-WritesEnd f =
-    (s buffer : List ℕ) → (f s buffer .answer .verdict ≡ translateInto s buffer .answer .verdict)
-    × (f s buffer .answer .verdict ≡ Accepted → codeIn (f s buffer) ≡ toBytes (END ∷ []))
+WritesEnd f = (s buffer : List ℕ) → f s buffer .answer .verdict ≡ Accepted → codeIn (f s buffer) ≡ toBytes (END ∷ [])
 
 abbrev pub WritesNothing : Translator → Type 0
-WritesNothing f = (s buffer : List ℕ) → (f s buffer .answer ≡ translateInto s buffer .answer) × (f s buffer .buffer ≡ buffer)
+WritesNothing f = (s buffer : List ℕ) → f s buffer .buffer ≡ buffer
 
 -- runners that hand the record back: always, or once time has run, so that they may be right on the first scan after a cold start
 abbrev pub HandsBack : Runner → Type 0
@@ -70,3 +71,10 @@ abbrev pub NoInventedRoom : Type 0
 NoInventedRoom =
     (f : Translator) → Translates f → (s buffer : List ℕ) (place : ℕ) → f s buffer .answer .verdict ≡ Refused (Room place)
     → (LengthOf s place → ⊥) → ⊥
+
+-- and every wrong runner: whatever meets demand 3 with the translator has, on any accepted sheet and after any scans, the record that `runCode` has
+abbrev pub OneRunner : Type 0
+OneRunner =
+    (f : Runner) → Demand3 translateInto f → (s : List ℕ) → checkSheet s ≡ Accepted
+    → (a : Sheet) × (end : ℕ) × (readSheet s ≡ ok a end)
+    × ((ticks : List Tick) → runAfter f s (codeOf a) ticks ≡ runAfter runCode s (codeOf a) ticks)

@@ -1,11 +1,12 @@
 -- What each out-parameter of the C calls is: r is the number returned, the others are what stands behind the pointers at exit.
 use Prim.Native.Nat.{ℕ}
 use mathlib.Core.Path.{_≡_}
+use mathlib.Core.List.{List}
 use Rattle.answer.specs.declared.Checked.{Checked}
 use Rattle.answer.specs.Number.{numberOf, placeOf}
 use Rattle.scan.specs.declared.State.{State}
-use Rattle.scan.specs.declared.Scanned.{Scanned}
 use Rattle.code.specs.declared.Record.{Record}
+use Rattle.translate.specs.Writing.{Written}
 
 -- the record behind the pointers, for the reference and for the runner
 abbrev pub stateOf : ℕ → ℕ → ℕ → State
@@ -18,6 +19,11 @@ recordOf flags outputs clock = record { flags = flags; outputs = outputs; clock 
 pub record Told (verdict : Checked) (r place : ℕ) : Type 0 where
   pub number : r ≡ numberOf verdict
   pub at : place ≡ placeOf verdict
+
+-- the code's bytes, 0 where refused, and every byte of the buffer
+pub record CodeLeft (w : Written) (length : ℕ) (code : List ℕ) : Type 0 where
+  pub length-is : length ≡ w .answer .length
+  pub code-is : code ≡ w .buffer
 
 -- the reference's record at exit
 pub record StateLeft (q : State) (state outputs clock : ℕ) : Type 0 where

@@ -8,7 +8,8 @@ ghost use Rattle.sheet.specs.Judging.{checkSheet};
 ghost use Rattle.scan.specs.Scan.{scanSheet, coldScan};
 ghost use Rattle.code.specs.Check.{checkCode};
 ghost use Rattle.code.specs.Run.{runCode};
-ghost use Rattle.recorder.specs.Answer.{stateOf, recordOf, Told, StateLeft, RecordLeft};
+ghost use Rattle.translate.specs.Writing.{translateInto, coldRun};
+ghost use Rattle.recorder.specs.Answer.{stateOf, recordOf, Told, CodeLeft, StateLeft, RecordLeft};
 
 // The number, and the place behind its pointer: no place needs more than 32 bits.
 fn answered(verdict: Checked, place: &mut u32) -> u32
@@ -35,6 +36,23 @@ pub extern "C" fn chz_check_code(code: &[u8], place: &mut u32) -> u32
     answered(code::check_code(code), place)
 }
 
+// Writes the code of a sheet.
+#[no_mangle]
+pub extern "C" fn chz_translate(
+    sheet: &[u8],
+    code: &mut [u8],
+    length: &mut u32,
+    place: &mut u32,
+) -> u32
+    ensures told { λ r. ⌜ Told (translateInto (now (sheet .entry)) (now (code .entry)) .answer .verdict) r (now (place .exit)) ⌝ }
+    ensures left { λ r. ⌜ CodeLeft (translateInto (now (sheet .entry)) (now (code .entry))) (now (length .exit)) (now (code .exit)) ⌝ }
+{
+    let translated = translate::translate(sheet, code);
+    *length = translated.length as u32;
+    let verdict = translated.verdict;
+    answered(verdict, place)
+}
+
 // The reference's cold start; what the record held is not read.
 #[no_mangle]
 pub extern "C" fn chz_cold_scan(
@@ -52,6 +70,27 @@ pub extern "C" fn chz_cold_scan(
     *state = begun.state;
     *outputs = begun.outputs;
     *clock = begun.clock;
+    let verdict = cold.verdict;
+    answered(verdict, place)
+}
+
+// The runner's cold start; what the record held is not read.
+#[no_mangle]
+pub extern "C" fn chz_cold_run(
+    sheet: &[u8],
+    flags: &mut u32,
+    outputs: &mut u16,
+    clock: &mut u32,
+    place: &mut u32,
+) -> u32
+    ensures told { λ r. ⌜ Told (coldRun (now (sheet .entry)) .verdict) r (now (place .exit)) ⌝ }
+    ensures left { λ r. ⌜ RecordLeft (coldRun (now (sheet .entry)) .«record») (now (flags .exit)) (now (outputs .exit)) (now (clock .exit)) ⌝ }
+{
+    let cold = translate::cold_run(sheet);
+    let first = cold.record;
+    *flags = first.flags;
+    *outputs = first.outputs;
+    *clock = first.clock;
     let verdict = cold.verdict;
     answered(verdict, place)
 }

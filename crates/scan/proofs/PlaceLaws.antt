@@ -7,7 +7,7 @@ use native.Mathlib.Omega.{arith}
 use lib.Dec.{ltb}
 use Rattle.answer.specs.Number.{placeOf}
 use Rattle.answer.specs.declared.Refusal.the-variants.{NoState}
-use Rattle.sheet.proofs.PlaceLaws.{with-fits}
+use Rattle.sheet.proofs.PlaceLaws.{with-holds}
 use Rattle.scan.specs.Scan.{scanOf, coldOf, accepted, refused, zeros, scanSheet, coldScan}
 use Rattle.scan.specs.declared.State.{State}
 use Rattle.scan.specs.declared.Scanned.{Scanned}
@@ -15,7 +15,7 @@ use Rattle.scan.specs.declared.Scanned.{Scanned}
 pub place-fits : (s : List ℕ) (q : State) (word elapsed : ℕ) → q .state < 256 → placeOf (scanSheet s q word elapsed .verdict) ≤ 40000
 unfolding scanSheet
 place-fits s q word elapsed l =
-    with-fits (λ (x : Scanned). x .verdict) (refused q) (λ why. refl) s _
+    with-holds (λ (x : Scanned). placeOf (x .verdict) ≤ 40000) (refused q) (λ why h. omega arith) s _
     (λ a end e. go (ltb (q .state) (a .states)) (scanOf a q word elapsed))
   where
     go : (b : Bool) (moved : State) → placeOf (cond b (accepted moved) (refused q (NoState (q .state))) .verdict) ≤ 40000
@@ -24,4 +24,5 @@ place-fits s q word elapsed l =
 
 pub cold-place-fits : (s : List ℕ) → placeOf (coldScan s .verdict) ≤ 40000
 unfolding coldScan
-cold-place-fits s = with-fits (λ (x : Scanned). x .verdict) (refused zeros) (λ why. refl) s _ (λ a end e. omega arith)
+cold-place-fits s =
+    with-holds (λ (x : Scanned). placeOf (x .verdict) ≤ 40000) (refused zeros) (λ why h. omega arith) s _ (λ a end e. omega arith)

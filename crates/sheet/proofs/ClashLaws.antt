@@ -1,46 +1,96 @@
--- Laws of the nested search for the first clash: PAIR and RANK share them, over the test `same`. Assumes nothing.
-use mathlib.Core.Path.{_≡_, refl}
-use mathlib.Core.Bool.{Bool, true, false}
+-- Laws of the nested search for the first clash, which goes by keys: PAIR and RANK share them. Assumes nothing.
+use mathlib.Core.Path.{_≡_, refl, _∙_}
+use mathlib.Core.Logic.{_≢_, ⊎-elim}
+use mathlib.Core.Bool.{Bool, true, false, _&&_}
 use mathlib.Core.List.{List}
-use Prim.Native.Nat.{ℕ, _+_, _≤_, _<_}
+use Prim.Native.Nat.{ℕ, _+_, _*_, _≤_, _<_}
+use native.Mathlib.Nat.{eq-or-lt-of-le, le-of-suc-le-suc}
+use native.Mathlib.Numerals.{add-one}
 use native.Mathlib.Omega.{arith}
+use borrow.Author.Tests.{eqb-true, eqb-false, eq-eqb, ne-eqb}
+use lib.Dec.{eqb}
+use lib.ListN.{length, getD, set}
+use lib.Seq.{getD-set-same, getD-set-other}
 use Rattle.answer.specs.Lowest.{anyBelow, firstBelow}
 use Rattle.answer.specs.declared.Found.the-variants.{At, Nothing}
-use Rattle.answer.proofs.Laws.{any-more, any-hit, first-more, first-hit}
+use Rattle.answer.proofs.Laws.{any-more, any-hit, any-same, first-more, first-hit, first-same}
 use Rattle.reader.specs.declared.Line.{Line}
-use Rattle.sheet.specs.Lines.{lineOf, clashBelow, firstClash}
+use Rattle.sheet.specs.Lines.{lineOf, clashBelow, firstClash, Keys, alikeBelow, firstAlike}
 use Rattle.sheet.proofs.SearchLaws.{search-end}
 
-module _ (same : Line → Line → Bool) (lines : List Line) where
-  pub clash-start : firstClash same lines 0 ≡ Nothing
-  unfolding firstClash firstBelow
+module _ (keys : List ℕ) where
+  pub clash-start : firstAlike keys 0 ≡ Nothing
+  unfolding firstAlike firstBelow
   clash-start = refl
 
-  -- no line before `earlier` clashes with `later`, and `earlier` is not past it
+  -- no line before `earlier` has the key of `later`, and `earlier` is not past it
   abbrev pub Apart : ℕ → ℕ → Type 0
-  Apart later earlier = (earlier ≤ later) × (clashBelow same lines later earlier ≡ false)
+  Apart later earlier = (earlier ≤ later) × (alikeBelow keys later earlier ≡ false)
 
   pub apart-start : (later : ℕ) → Apart later 0
   unfolding anyBelow
   apart-start later = (omega arith, refl)
 
-  pub apart-more : (later earlier : ℕ) → earlier < later → Apart later earlier → same (lineOf lines earlier) (lineOf lines later) ≡ false
+  pub apart-more : (later earlier : ℕ) → earlier < later → Apart later earlier → eqb (getD keys earlier 0) (getD keys later 0) ≡ false
       → Apart later (earlier + 1)
-  apart-more later earlier l h e = (omega arith, any-more (λ i. same (lineOf lines i) (lineOf lines later)) earlier (h .1) e)
+  apart-more later earlier l h e = (omega arith, any-more (λ i. eqb (getD keys i 0) (getD keys later 0)) earlier (h .1) e)
 
-  pub clash-more : (later earlier : ℕ) → later ≤ earlier → firstClash same lines later ≡ Nothing → Apart later earlier
-      → firstClash same lines (later + 1) ≡ Nothing
-  unfolding firstClash
+  pub clash-more : (later earlier : ℕ) → later ≤ earlier → firstAlike keys later ≡ Nothing → Apart later earlier
+      → firstAlike keys (later + 1) ≡ Nothing
+  unfolding firstAlike
   clash-more later earlier l h a =
       let e : earlier ≡ later = omega arith in
-      first-more (λ j. clashBelow same lines j j) later h (rw e at (a .1))
+      first-more (λ j. alikeBelow keys j j) later h (rw e at (a .1))
 
-  pub clash-hit : (later earlier m : ℕ) → earlier < later → later < m → firstClash same lines later ≡ Nothing
-      → same (lineOf lines earlier) (lineOf lines later) ≡ true → firstClash same lines m ≡ At later
-  unfolding firstClash
+  pub clash-hit : (later earlier m : ℕ) → earlier < later → later < m → firstAlike keys later ≡ Nothing
+      → eqb (getD keys earlier 0) (getD keys later 0) ≡ true → firstAlike keys m ≡ At later
+  unfolding firstAlike
   clash-hit later earlier m l b h e =
-      first-hit (λ j. clashBelow same lines j j) later m b h (any-hit (λ i. same (lineOf lines i) (lineOf lines later)) earlier later l e)
+      first-hit (λ j. alikeBelow keys j j) later m b h (any-hit (λ i. eqb (getD keys i 0) (getD keys later 0)) earlier later l e)
 
-  pub clash-end : (later m : ℕ) → m ≤ later → firstClash same lines later ≡ Nothing → firstClash same lines m ≡ Nothing
-  unfolding firstClash
-  clash-end later m l h = search-end (λ j. clashBelow same lines j j) m later l h
+  pub clash-end : (later m : ℕ) → m ≤ later → firstAlike keys later ≡ Nothing → firstAlike keys m ≡ Nothing
+  unfolding firstAlike
+  clash-end later m l h = search-end (λ j. alikeBelow keys j j) m later l h
+
+-- so the search goes by the keys
+pub by-keys : (same : Line → Line → Bool) (lines : List Line) (m : ℕ) (keys : List ℕ) → Keys same lines m keys
+    → firstAlike keys m ≡ firstClash same lines m
+unfolding firstAlike firstClash
+by-keys same lines m keys h =
+    first-same (λ j. alikeBelow keys j j) (λ j. clashBelow same lines j j) m
+    λ j l. any-same (λ i. eqb (getD keys i 0) (getD keys j 0)) (λ i. same (lineOf lines i) (lineOf lines j)) j
+    λ i b. h i j (omega arith) l
+
+-- a key made of two bytes is another one where both bytes are the other's
+key-same : (a b c d : ℕ) → b < 256 → d < 256 → eqb (a * 256 + b) (c * 256 + d) ≡ eqb a c && eqb b d
+key-same a b c d l m = go (eqb a c) refl (eqb b d) refl
+  where
+    go : (x : Bool) → eqb a c ≡ x → (y : Bool) → eqb b d ≡ y → eqb (a * 256 + b) (c * 256 + d) ≡ x && y
+    go true p true q = eq-eqb (a * 256 + b) (c * 256 + d) (omega (arith, eqb-true a c p, eqb-true b d q))
+    go true p false q =
+        let n : b ≢ d = eqb-false b d q in
+        ne-eqb (a * 256 + b) (c * 256 + d) (λ (e : a * 256 + b ≡ c * 256 + d). n (omega arith))
+    go false p y q =
+        let n : a ≢ c = eqb-false a c p in
+        ne-eqb (a * 256 + b) (c * 256 + d) (λ (e : a * 256 + b ≡ c * 256 + d). n (omega arith))
+
+-- the first i keys are made of their lines' sources and of another byte of them
+module _ (byte : Line → ℕ) (lines : List Line) where
+  abbrev pub keyOf : ℕ → ℕ
+  keyOf i = lineOf lines i .source * 256 + byte (lineOf lines i)
+
+  abbrev pub Made : List ℕ → ℕ → Type 0
+  Made keys i = (j : ℕ) → j < i → (getD keys j 0 ≡ keyOf j) × (byte (lineOf lines j) < 256)
+
+  pub made-more : (keys : List ℕ) (i : ℕ) → i < length keys → byte (lineOf lines i) < 256 → Made keys i → Made (set keys i (keyOf i)) (i + 1)
+  made-more keys i l b f j h =
+      ⊎-elim (λ (q : j ≡ i). rw q (getD-set-same keys i (keyOf i) 0 l, b))
+      (λ (q : j < i). let n : j ≢ i = (λ z. omega arith) in (getD-set-other keys i j (keyOf i) 0 n ∙ f j q .0, f j q .1))
+      (eq-or-lt-of-le (le-of-suc-le-suc (rw add-one at h)))
+
+  -- so two of them are equal where both are
+  pub made-keys : (keys : List ℕ) (m i : ℕ) → m ≤ i → Made keys i → Keys (λ t u. eqb (t .source) (u .source) && eqb (byte t) (byte u)) lines m keys
+  made-keys keys m n e f i j l b =
+      let t = f i (omega arith) in
+      let u = f j (omega arith) in
+      rw (t .0, u .0) (key-same (lineOf lines i .source) (byte (lineOf lines i)) (lineOf lines j .source) (byte (lineOf lines j)) (t .1) (u .1))

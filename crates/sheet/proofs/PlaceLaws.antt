@@ -1,5 +1,5 @@
 -- How large the place of a refused sheet can be, and that of what goes on with a sheet. Assumes nothing.
-use mathlib.Core.Path.{_≡_, refl, ap}
+use mathlib.Core.Path.{_≡_, refl}
 use mathlib.Core.List.{List}
 use Prim.Native.Nat.{ℕ, _≤_}
 use native.Mathlib.Omega.{arith}
@@ -39,17 +39,16 @@ place-fits s = go (readSheet s) refl
     go (ok a end) e = omega (arith, read-fits s a end e)
     go (no why) e = reading.place-fits s why e
 
--- what goes on with a sheet: a refused one keeps its place, and an accepted one has that of its own answer
-module _ {B : Type 0} (verdict : B → Checked) (refuse : Refusal → B) (told : (why : Refusal) → verdict (refuse why) ≡ Refused why) where
-  judged-fits : (v : Checked) (b : B) → placeOf v ≤ 128 → placeOf (verdict b) ≤ 40000 → placeOf (verdict (judgedOr v refuse b)) ≤ 40000
-  judged-fits Accepted b h l = l
-  judged-fits (Refused why) b h l = omega (arith, ap placeOf (told why))
+-- what goes on with a sheet: what holds of every refusal with such a place, and of every sheet that was read, holds
+module _ {B : Type 0} (P : B → Type 0) (refuse : Refusal → B) (h : (why : Refusal) → place why ≤ 30000 → P (refuse why)) where
+  judged-holds : (v : Checked) (b : B) → placeOf v ≤ 128 → P b → P (judgedOr v refuse b)
+  judged-holds Accepted b l p = p
+  judged-holds (Refused why) b l p = h why (omega arith)
 
-  pub with-fits : (s : List ℕ) (go : Sheet → B) → ((a : Sheet) (end : ℕ) → readSheet s ≡ ok a end → placeOf (verdict (go a)) ≤ 40000)
-      → placeOf (verdict (withSheet s refuse go)) ≤ 40000
+  pub with-holds : (s : List ℕ) (go : Sheet → B) → ((a : Sheet) (end : ℕ) → readSheet s ≡ ok a end → P (go a)) → P (withSheet s refuse go)
   unfolding withSheet
-  with-fits s go h = by (readSheet s) refl
+  with-holds s go p = by (readSheet s) refl
     where
-      by : (x : Ans Sheet) → readSheet s ≡ x → placeOf (verdict (readOr x refuse go)) ≤ 40000
-      by (ok a end) e = judged-fits (judge a) (go a) (read-fits s a end e) (h a end e)
-      by (no why) e = omega (arith, ap placeOf (told why), reading.place-fits s why e)
+      by : (x : Ans Sheet) → readSheet s ≡ x → P (readOr x refuse go)
+      by (ok a end) e = judged-holds (judge a) (go a) (read-fits s a end e) (p a end e)
+      by (no why) e = h why (reading.place-fits s why e)

@@ -37,6 +37,18 @@ clashBelow same lines later earlier = anyBelow (λ i. same (lineOf lines i) (lin
 unfoldable pub firstClash : (Line → Line → Bool) → List Line → ℕ → Found
 firstClash same lines m = firstBelow (λ later. clashBelow same lines later later) m
 
+-- two of the m keys are equal where their lines clash
+abbrev pub Keys : (Line → Line → Bool) → List Line → ℕ → List ℕ → Type 0
+Keys same lines m keys = (i j : ℕ) → i < m → j < m → eqb (getD keys i 0) (getD keys j 0) ≡ same (lineOf lines i) (lineOf lines j)
+
+-- the key of `later` is that of some line before `earlier`
+abbrev pub alikeBelow : List ℕ → ℕ → ℕ → Bool
+alikeBelow keys later earlier = anyBelow (λ i. eqb (getD keys i 0) (getD keys later 0)) earlier
+
+-- the lowest line with the key of an earlier one
+unfoldable pub firstAlike : List ℕ → ℕ → Found
+firstAlike keys m = firstBelow (λ later. alikeBelow keys later later) m
+
 abbrev pub homeLine : ℕ → Line → Bool
 homeLine s t = eqb (t .source) s && eqb (t .destination) 0
 

@@ -12,7 +12,7 @@ ghost use Rattle.answer.specs.Lowest.{firstBelow};
 ghost use Rattle.reader.specs.Sheet.{Sheet};
 ghost use Rattle.reader.specs.Decoding.{Copy};
 ghost use Rattle.sheet.specs.Judging.{judge, checkSheet};
-ghost use Rattle.sheet.specs.Lines.{lineOf, loopLine, pairLines, rankLines, firstClash, Homes, lacksHomeLine, homeFormLine, gateLine, activityRow, judgeForms};
+ghost use Rattle.sheet.specs.Lines.{lineOf, loopLine, pairLines, rankLines, Keys, firstAlike, Homes, lacksHomeLine, homeFormLine, gateLine, activityRow, judgeForms};
 ghost use Rattle.sheet.specs.Opening.{Opens};
 
 // What a sheet's bytes are found to be: the verdict, and the decoded copy where it accepts.
@@ -37,46 +37,51 @@ fn first_loop(lines: [Line; 128], m: usize) -> Found
     Found::Nothing
 }
 
-// 8 PAIR: the first transition with the source and the destination of an earlier one.
-fn first_pair(lines: [Line; 128], m: usize) -> Found
+// A transition's key for PAIR: two of them are equal where both its states are.
+fn pair_keys(lines: [Line; 128], m: usize) -> [u16; 128]
     requires { ⌜ m ≤ 128 ⌝ }
-    ensures { λ r. ⌜ r ≡ firstClash pairLines lines m ⌝ }
+    ensures { λ r. ⌜ Keys pairLines lines m r ⌝ }
 {
-    let mut later: usize = 0;
-    let found = 'pair: loop {
-        if m <= later {
-            break Found::Nothing;
-        }
-        let u = lines[later];
-        let mut earlier: usize = 0;
-        while earlier < later {
-            let t = lines[earlier];
-            if (t.source == u.source) & (t.destination == u.destination) {
-                break 'pair Found::At(later);
-            }
-            earlier += 1;
-        }
-        later += 1;
-    };
-    found
+    let mut keys = [0u16; 128];
+    let mut i: usize = 0;
+    while i < m {
+        let t = lines[i];
+        keys[i] = (t.source as u16) * 256 + (t.destination as u16);
+        i += 1;
+    }
+    keys
 }
 
-// 9 RANK: the first transition with the source and the priority of an earlier one.
-fn first_rank(lines: [Line; 128], m: usize) -> Found
+// A transition's key for RANK: two of them are equal where source and priority are.
+fn rank_keys(lines: [Line; 128], m: usize) -> [u16; 128]
     requires { ⌜ m ≤ 128 ⌝ }
-    ensures { λ r. ⌜ r ≡ firstClash rankLines lines m ⌝ }
+    ensures { λ r. ⌜ Keys rankLines lines m r ⌝ }
+{
+    let mut keys = [0u16; 128];
+    let mut i: usize = 0;
+    while i < m {
+        let t = lines[i];
+        keys[i] = (t.source as u16) * 256 + (t.priority as u16);
+        i += 1;
+    }
+    keys
+}
+
+// 8 PAIR and 9 RANK: the first transition with the key of an earlier one.
+fn first_clash(keys: &[u16; 128], m: usize) -> Found
+    requires { ⌜ m ≤ 128 ⌝ }
+    ensures { λ r. ⌜ r ≡ firstAlike (now (keys .entry)) m ⌝ }
 {
     let mut later: usize = 0;
-    let found = 'rank: loop {
+    let found = 'clash: loop {
         if m <= later {
             break Found::Nothing;
         }
-        let u = lines[later];
+        let key = keys[later];
         let mut earlier: usize = 0;
         while earlier < later {
-            let t = lines[earlier];
-            if (t.source == u.source) & (t.priority == u.priority) {
-                break 'rank Found::At(later);
+            if keys[earlier] == key {
+                break 'clash Found::At(later);
             }
             earlier += 1;
         }
@@ -200,11 +205,13 @@ fn judge_decoded(d: Decoded) -> Checked
     if let Found::At(i) = to_itself {
         return Checked::Refused(Refusal::Loop(i));
     }
-    let pair = first_pair(lines, m);
+    let pairs = pair_keys(lines, m);
+    let pair = first_clash(&pairs, m);
     if let Found::At(i) = pair {
         return Checked::Refused(Refusal::Pair(i));
     }
-    let rank = first_rank(lines, m);
+    let ranks = rank_keys(lines, m);
+    let rank = first_clash(&ranks, m);
     if let Found::At(i) = rank {
         return Checked::Refused(Refusal::Rank(i));
     }

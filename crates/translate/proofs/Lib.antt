@@ -10,3 +10,4 @@ pub mod StandLaws
 pub mod OrderLaws
 pub mod WholeLaws
 pub mod OpenedLaws
+pub mod PlaceLaws

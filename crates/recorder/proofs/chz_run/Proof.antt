@@ -22,12 +22,14 @@ answered-requires c κs =
 
 returns : tie.Need-returns
 returns c =
-    let e = c .before .before .before .run .ensures in
-    (subst (λ (x : Ran). Told (x .verdict) (c .answered .result) (c .answered .last .1 .0)) e (c .answered .ensures), record {
-      flags-is = ap (λ (x : Ran). x .«record» .flags) e;
-      outputs-is = ap (λ (x : Ran). x .«record» .outputs) e;
-      clock-is = ap (λ (x : Ran). x .«record» .clock) e;
-    })
+    let e = c .before .before .before .run .ensures in (
+      subst (λ (x : Ran). Told (x .verdict) (c .answered .result) (c .answered .last .1 .0)) e (c .answered .ensures),
+      record {
+        flags-is = ap (λ (x : Ran). x .«record» .flags) e;
+        outputs-is = ap (λ (x : Ran). x .«record» .outputs) e;
+        clock-is = ap (λ (x : Ran). x .«record» .clock) e;
+      },
+    )
 
 pub chz-run-spec : {M : Type 1} → statement M
 chz-run-spec = tie.close (tie.spec run-requires answered-requires returns)
