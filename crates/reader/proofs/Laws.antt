@@ -22,11 +22,9 @@ use Rattle.condition.specs.Reading.{Counted, conditionAt}
 use Rattle.condition.proofs.Laws.{cond-went}
 use Rattle.reader.specs.Sheet.{Transition, Sheet, count, noTransition}
 use Rattle.reader.specs.Reading.{readHeader, rowAt, transitionAt, endsAt, readSheet}
-use Rattle.reader.specs.Decoding.{Names, namesAt, restAt, forgetHeader, forgetRow, forgetNames, noLine, LineIs, Holds, HoldsRows, HoldsLines, Copy, Answers}
+use Rattle.reader.specs.Packing.{unpack, lineAt}
+use Rattle.reader.specs.Decoding.{Names, namesAt, restAt, forgetHeader, forgetRow, forgetNames, LineIs, Holds, HoldsRows, HoldsLines, Copy, Answers}
 use Rattle.reader.specs.declared.Header.{Header}
-use Rattle.reader.specs.declared.Line.{Line}
-use Rattle.reader.specs.declared.Rows.{Rows}
-use Rattle.reader.specs.declared.Lines.{Lines}
 use Rattle.reader.specs.declared.Decoded.{Decoded}
 use Rattle.reader.specs.declared.How.{How}
 use Rattle.reader.specs.declared.How.the-variants as how
@@ -70,6 +68,18 @@ names-next s n at {x} {next} h =
     let x2 = bind-ok (readField s 5 (x1 .1)) _ (g1 .1) in
     let g2 = guard-ok (ltb (x2 .0) n) (refuse.StateNo (x1 .1)) _ (x2 .3) in
     omega (arith, field-read s 5 at (x1 .2) .after, field-read s 5 (x1 .1) (x2 .2) .after, ok-next (g2 .1))
+
+-- they are five bits each
+pub names-few : (s : List ℕ) (n at : ℕ) {x : Names} {next : ℕ} → namesAt s n at ≡ ok x next → (x .source < 32) × (x .destination < 32)
+unfolding namesAt
+names-few s n at {x} {next} h =
+    let x1 = bind-ok (readField s 5 at) _ h in
+    let g1 = guard-ok (ltb (x1 .0) n) (refuse.StateNo at) _ (x1 .3) in
+    let x2 = bind-ok (readField s 5 (x1 .1)) _ (g1 .1) in
+    let g2 = guard-ok (ltb (x2 .0) n) (refuse.StateNo (x1 .1)) _ (x2 .3) in
+    let e1 : x1 .0 ≡ x .source = ap (λ (y : Names). y .source) (ok-is (g2 .1)) in
+    let e2 : x2 .0 ≡ x .destination = ap (λ (y : Names). y .destination) (ok-is (g2 .1)) in
+    (omega (arith, field-read s 5 at (x1 .2) .below), omega (arith, field-read s 5 (x1 .1) (x2 .2) .below))
 
 pub rest-next : (s : List ℕ) (k source destination at : ℕ) {t : Transition} {next : ℕ} → restAt s k source destination at ≡ ok t next
     → next ≤ at + 217
@@ -133,14 +143,14 @@ pub names-bad : (x : Ans Names) (q : Refusal) → forgetNames x ≡ namesread.Ba
 names-bad (ok g next) q e = let z : _≡_ {A = ℕ} 0 1 = cc in absurd (omega arith)
 names-bad (no p) q e = let r : p ≡ q = cc in ap no r
 
-next-line : {l m : Line} {c d : Cursor} → lineread.Next l c ≡ lineread.Next m d → l ≡ m
+next-line : {l m : ℕ} {c d : Cursor} → lineread.Next l c ≡ lineread.Next m d → l ≡ m
 next-line h = cc
 
-next-cursor : {l m : Line} {c d : Cursor} → lineread.Next l c ≡ lineread.Next m d → c ≡ d
+next-cursor : {l m : ℕ} {c d : Cursor} → lineread.Next l c ≡ lineread.Next m d → c ≡ d
 next-cursor h = cc
 
-pub line-got : (s : List ℕ) (k : ℕ) (x : Ans Transition) (r : LineRead) (l : Line) (c : Cursor) → LineIs s k x r → r ≡ lineread.Next l c
-    → (t : Transition) × (x ≡ ok t (c .at)) × Holds s k l t
+pub line-got : (s : List ℕ) (k : ℕ) (x : Ans Transition) (r : LineRead) (l : ℕ) (c : Cursor) → LineIs s k x r → r ≡ lineread.Next l c
+    → (t : Transition) × (x ≡ ok t (c .at)) × Holds s k (unpack l) t
 line-got s k (ok t next) r l c h e =
     let f : lineread.Next (h .0) (record { at = next }) ≡ lineread.Next l c = sym (h .1) ∙ e in
     (t, ap (λ (m : ℕ). ok t m) (cursor-is (next-cursor f)), rw (next-line f) at (h .2))
@@ -163,23 +173,23 @@ done-bad : {A : Type 0} {a : Cursor} {b : Refusal} → how.Done a ≡ how.Bad b 
 done-bad h = let z : _≡_ {A = ℕ} 0 1 = cc in absurd (omega arith)
 
 -- rows and transitions that were read, or refused
-pub rows-done : (x : Ans (List (List Bool))) (n : ℕ) (r : Rows) (c : Cursor) → HoldsRows x n r → r .how ≡ how.Done c
-    → (xs : List (List Bool)) × (x ≡ ok xs (c .at)) × ((i : ℕ) → i < n → getD (r .rows) i 0 ≡ wordOf (getD xs i []))
-rows-done (ok xs next) n r c h e = (xs, ap (λ (m : ℕ). ok xs m) (cursor-is (done-is (sym (h .0) ∙ e))), h .1)
-rows-done (no why) n r c h e = done-bad (sym e ∙ h)
+pub rows-done : (x : Ans (List (List Bool))) (n : ℕ) (r : How) (rows : List ℕ) (c : Cursor) → HoldsRows x n r rows → r ≡ how.Done c
+    → (xs : List (List Bool)) × (x ≡ ok xs (c .at)) × ((i : ℕ) → i < n → getD rows i 0 ≡ wordOf (getD xs i []))
+rows-done (ok xs next) n r rows c h e = (xs, ap (λ (m : ℕ). ok xs m) (cursor-is (done-is (sym (h .0) ∙ e))), h .1)
+rows-done (no why) n r rows c h e = done-bad (sym e ∙ h)
 
-pub rows-bad : (x : Ans (List (List Bool))) (n : ℕ) (r : Rows) (q : Refusal) → HoldsRows x n r → r .how ≡ how.Bad q → x ≡ no q
-rows-bad (ok xs next) n r q h e = done-bad (sym (h .0) ∙ e)
-rows-bad (no why) n r q h e = ap no (bad-is (sym h ∙ e))
+pub rows-bad : (x : Ans (List (List Bool))) (n : ℕ) (r : How) (rows : List ℕ) (q : Refusal) → HoldsRows x n r rows → r ≡ how.Bad q → x ≡ no q
+rows-bad (ok xs next) n r rows q h e = done-bad (sym (h .0) ∙ e)
+rows-bad (no why) n r rows q h e = ap no (bad-is (sym h ∙ e))
 
-pub lines-done : (s : List ℕ) (k : ℕ) (x : Ans (List Transition)) (m : ℕ) (r : Lines) (c : Cursor) → HoldsLines s k x m r → r .how ≡ how.Done c
-    → (ts : List Transition) × (x ≡ ok ts (c .at)) × ((i : ℕ) → i < m → Holds s k (getD (r .lines) i noLine) (getD ts i noTransition))
-lines-done s k (ok ts next) m r c h e = (ts, ap (λ (n : ℕ). ok ts n) (cursor-is (done-is (sym (h .0) ∙ e))), h .1)
-lines-done s k (no why) m r c h e = done-bad (sym e ∙ h)
+pub lines-done : (s : List ℕ) (k : ℕ) (x : Ans (List Transition)) (m : ℕ) (r : How) (lines : List ℕ) (c : Cursor) → HoldsLines s k x m r lines → r ≡ how.Done c
+    → (ts : List Transition) × (x ≡ ok ts (c .at)) × ((i : ℕ) → i < m → Holds s k (lineAt lines i) (getD ts i noTransition))
+lines-done s k (ok ts next) m r lines c h e = (ts, ap (λ (n : ℕ). ok ts n) (cursor-is (done-is (sym (h .0) ∙ e))), h .1)
+lines-done s k (no why) m r lines c h e = done-bad (sym e ∙ h)
 
-pub lines-bad : (s : List ℕ) (k : ℕ) (x : Ans (List Transition)) (m : ℕ) (r : Lines) (q : Refusal) → HoldsLines s k x m r → r .how ≡ how.Bad q → x ≡ no q
-lines-bad s k (ok ts next) m r q h e = done-bad (sym (h .0) ∙ e)
-lines-bad s k (no why) m r q h e = ap no (bad-is (sym h ∙ e))
+pub lines-bad : (s : List ℕ) (k : ℕ) (x : Ans (List Transition)) (m : ℕ) (r : How) (lines : List ℕ) (q : Refusal) → HoldsLines s k x m r lines → r ≡ how.Bad q → x ≡ no q
+lines-bad s k (ok ts next) m r lines q h e = done-bad (sym (h .0) ∙ e)
+lines-bad s k (no why) m r lines q h e = ap no (bad-is (sym h ∙ e))
 
 -- a row's word, one output more
 pub word-more : (v w : ℕ) → wordOf (bitsOf w v) * 2 + v / 2 ^ w % 2 ≡ wordOf (bitsOf (w + 1) v)
@@ -243,14 +253,14 @@ pub transitions-next : (s : List ℕ) (n k at m : ℕ) {ts : List Transition} {b
 transitions-next s n k at m h e = omega (arith, upto-next (transitionAt s n k) 227 (λ a t b e. transition-next s n k a e) at m e)
 
 -- a sheet that was read, or refused
-pub answers-done : (s : List ℕ) (x : Ans Sheet) (d : Decoded) (c : Cursor) → Answers s x d → d .how ≡ how.Done c
-    → (a : Sheet) × (x ≡ ok a (c .at)) × Copy s d a
-answers-done s (ok a end) d c h e = (a, ap (λ (m : ℕ). ok a m) (cursor-is (done-is (sym (h .0) ∙ e))), h .1)
-answers-done s (no why) d c h e = done-bad (sym e ∙ h)
+pub answers-done : (s : List ℕ) (x : Ans Sheet) (d : Decoded) (rows lines : List ℕ) (c : Cursor) → Answers s x d rows lines → d .how ≡ how.Done c
+    → (a : Sheet) × (x ≡ ok a (c .at)) × Copy s d rows lines a
+answers-done s (ok a end) d rows lines c h e = (a, ap (λ (m : ℕ). ok a m) (cursor-is (done-is (sym (h .0) ∙ e))), h .1)
+answers-done s (no why) d rows lines c h e = done-bad (sym e ∙ h)
 
-pub answers-bad : (s : List ℕ) (x : Ans Sheet) (d : Decoded) (q : Refusal) → Answers s x d → d .how ≡ how.Bad q → x ≡ no q
-answers-bad s (ok a end) d q h e = done-bad (sym (h .0) ∙ e)
-answers-bad s (no why) d q h e = ap no (bad-is (sym h ∙ e))
+pub answers-bad : (s : List ℕ) (x : Ans Sheet) (d : Decoded) (rows lines : List ℕ) (q : Refusal) → Answers s x d rows lines → d .how ≡ how.Bad q → x ≡ no q
+answers-bad s (ok a end) d rows lines q h e = done-bad (sym (h .0) ∙ e)
+answers-bad s (no why) d rows lines q h e = ap no (bad-is (sym h ∙ e))
 
 -- a sheet that was read has at most 32 states and 128 transitions
 pub read-sizes : (s : List ℕ) (a : Sheet) (end : ℕ) → readSheet s ≡ ok a end → (a .states ≤ 32) × (count a ≤ 128)

@@ -1,3 +1,4 @@
 pub mod FillLaws
+pub mod PackLaws
 pub mod Laws
 pub mod PlaceLaws

@@ -16,8 +16,7 @@ use Rattle.condition.specs.declared.CondRead.the-variants as condread
 use Rattle.reader.specs.Sheet.{Transition, Sheet, count, transitionOf, rowOf, noTransition}
 use Rattle.reader.specs.declared.Header.{Header}
 use Rattle.reader.specs.declared.Line.{Line}
-use Rattle.reader.specs.declared.Rows.{Rows}
-use Rattle.reader.specs.declared.Lines.{Lines}
+use Rattle.reader.specs.Packing.{unpack, lineAt}
 use Rattle.reader.specs.declared.Decoded.{Decoded}
 use Rattle.reader.specs.declared.How.{How}
 use Rattle.reader.specs.declared.How.the-variants as how
@@ -75,9 +74,6 @@ abbrev pub forgetNames : Ans Names → NamesRead
 forgetNames (ok x next) = namesread.Names (x .source) (x .destination) (record { at = next })
 forgetNames (no why) = namesread.Bad why
 
-abbrev pub noLine : Line
-noLine = record { source = 0; destination = 0; priority = 0; form = 0; words = 0; wait = 0; cond = 0 }
-
 -- the line holds the transition, whose condition stands at bit `cond`
 pub record Holds (s : List ℕ) (k : ℕ) (line : Line) (t : Transition) : Type 0 where
   pub source : line .source ≡ t .source
@@ -93,29 +89,29 @@ pub record Holds (s : List ℕ) (k : ℕ) (line : Line) (t : Transition) : Type 
 
 -- the code's answer is that transition, or the refusal
 abbrev pub LineIs : List ℕ → ℕ → Ans Transition → LineRead → Type 0
-LineIs s k (ok t next) r = (line : Line) × (r ≡ lineread.Next line (record { at = next })) × Holds s k line t
+LineIs s k (ok t next) r = (word : ℕ) × (r ≡ lineread.Next word (record { at = next })) × Holds s k (unpack word) t
 LineIs s k (no why) r = r ≡ lineread.Bad why
 
 -- the code's rows and lines are those of the lists
-abbrev pub HoldsRows : Ans (List (List Bool)) → ℕ → Rows → Type 0
-HoldsRows (ok xs next) n r = (r .how ≡ how.Done (record { at = next })) × ((i : ℕ) → i < n → getD (r .rows) i 0 ≡ wordOf (getD xs i []))
-HoldsRows (no why) n r = r .how ≡ how.Bad why
+abbrev pub HoldsRows : Ans (List (List Bool)) → ℕ → How → List ℕ → Type 0
+HoldsRows (ok xs next) n r rows = (r ≡ how.Done (record { at = next })) × ((i : ℕ) → i < n → getD rows i 0 ≡ wordOf (getD xs i []))
+HoldsRows (no why) n r rows = r ≡ how.Bad why
 
-abbrev pub HoldsLines : List ℕ → ℕ → Ans (List Transition) → ℕ → Lines → Type 0
-HoldsLines s k (ok ts next) m r =
-    (r .how ≡ how.Done (record { at = next })) × ((i : ℕ) → i < m → Holds s k (getD (r .lines) i noLine) (getD ts i noTransition))
-HoldsLines s k (no why) m r = r .how ≡ how.Bad why
+abbrev pub HoldsLines : List ℕ → ℕ → Ans (List Transition) → ℕ → How → List ℕ → Type 0
+HoldsLines s k (ok ts next) m r lines =
+    (r ≡ how.Done (record { at = next })) × ((i : ℕ) → i < m → Holds s k (lineAt lines i) (getD ts i noTransition))
+HoldsLines s k (no why) m r lines = r ≡ how.Bad why
 
--- the code's copy is that sheet
-pub record Copy (s : List ℕ) (d : Decoded) (a : Sheet) : Type 0 where
+-- the code's copy, with the arrays lent to it, is that sheet
+pub record Copy (s : List ℕ) (d : Decoded) (rows lines : List ℕ) (a : Sheet) : Type 0 where
   pub states : d .states ≡ a .states
   pub inputs : d .inputs ≡ a .inputs
   pub outputs : d .outputs ≡ a .outputs
   pub transitions : d .transitions ≡ count a
-  pub row : (i : ℕ) → i < a .states → getD (d .rows) i 0 ≡ wordOf (rowOf a i)
-  pub line : (i : ℕ) → i < count a → Holds s (a .inputs) (getD (d .lines) i noLine) (transitionOf a i)
+  pub row : (i : ℕ) → i < a .states → getD rows i 0 ≡ wordOf (rowOf a i)
+  pub line : (i : ℕ) → i < count a → Holds s (a .inputs) (lineAt lines i) (transitionOf a i)
 
 -- the code's answer is that of the reader
-abbrev pub Answers : List ℕ → Ans Sheet → Decoded → Type 0
-Answers s (ok a end) d = (d .how ≡ how.Done (record { at = end })) × Copy s d a
-Answers s (no why) d = d .how ≡ how.Bad why
+abbrev pub Answers : List ℕ → Ans Sheet → Decoded → List ℕ → List ℕ → Type 0
+Answers s (ok a end) d rows lines = (d .how ≡ how.Done (record { at = end })) × Copy s d rows lines a
+Answers s (no why) d rows lines = d .how ≡ how.Bad why

@@ -5,9 +5,11 @@ use bits::Got;
 use condition::CondRead;
 ghost use mathlib.Core.Path.{_≡_};
 ghost use Prim.Native.Nat.{_≤_, _<_};
+ghost use lib.ListN.{length};
 ghost use Rattle.bits.specs.Word.{bitsOf, wordOf};
 ghost use Rattle.bits.specs.Read.{upto};
 ghost use Rattle.reader.specs.Reading.{readHeader, rowAt, transitionAt, endsAt, readSheet};
+ghost use Rattle.reader.specs.Packing.{pack, unpack, Fits};
 ghost use Rattle.reader.specs.Decoding.{forgetHeader, forgetRow, HoldsRows, forgetNames, namesAt, LineIs, restAt, HoldsLines, Answers, condFault, headFault, howFault};
 
 // The header's four numbers.
@@ -35,15 +37,13 @@ pub enum How {
     Bad(Refusal),
 }
 
-// A sheet, decoded once: each state's outputs as a word, and the transitions in the sheet's order.
+// A sheet's header, decoded once; its rows and lines stand in arrays that the caller lends.
 pub struct Decoded {
     pub how: How,
     pub states: u32,
     pub inputs: u32,
     pub outputs: u32,
     pub transitions: usize,
-    pub rows: [u16; 32],
-    pub lines: [Line; 128],
 }
 
 // The answers of the steps below: what was read with the cursor after it, or the refusal.
@@ -63,18 +63,8 @@ pub enum NamesRead {
 }
 
 pub enum LineRead {
-    Next(Line, Cursor),
+    Next(u64, Cursor),
     Bad(Refusal),
-}
-
-pub struct Rows {
-    pub how: How,
-    pub rows: [u16; 32],
-}
-
-pub struct Lines {
-    pub how: How,
-    pub lines: [Line; 128],
 }
 
 fn read_header(s: &[u8]) -> HeadRead
@@ -141,11 +131,10 @@ fn read_row(s: &[u8], c: Cursor, width: usize) -> RowRead
 }
 
 // The rows of the first n states.
-fn read_rows(s: &[u8], c: Cursor, n: usize, width: usize) -> Rows
-    requires { ⌜ (c .at ≤ 100) × (n ≤ 32) × (1 ≤ width) × (width ≤ 16) ⌝ }
-    ensures { λ r. ⌜ HoldsRows (upto (rowAt (now (s .entry)) width) (c .at) n) n r ⌝ }
+fn read_rows(s: &[u8], c: Cursor, n: usize, width: usize, rows: &mut [u16; 32]) -> How
+    requires { ⌜ (c .at ≤ 100) × (n ≤ 32) × (1 ≤ width) × (width ≤ 16) × (length (now rows) ≡ 32) ⌝ }
+    ensures { λ r. ⌜ HoldsRows (upto (rowAt (now (s .entry)) width) (c .at) n) n r (now (rows .exit)) ⌝ }
 {
-    let mut rows = [0u16; 32];
     let mut here = c;
     let mut i: usize = 0;
     while i < n {
@@ -157,17 +146,11 @@ fn read_rows(s: &[u8], c: Cursor, n: usize, width: usize) -> Rows
                 i += 1;
             }
             RowRead::Bad(why) => {
-                return Rows {
-                    how: How::Bad(why),
-                    rows: rows,
-                };
+                return How::Bad(why);
             }
         }
     }
-    Rows {
-        how: How::Done(here),
-        rows: rows,
-    }
+    How::Done(here)
 }
 
 // The source and the destination of a transition.
@@ -204,9 +187,38 @@ fn cond_fault(a: CondRead) -> Refusal
     }
 }
 
+// A line in one number: source and priority are its highest digits, so that they order it.
+fn packed(t: Line) -> u64
+    requires { ⌜ Fits t ⌝ }
+    ensures { λ r. ⌜ r ≡ pack t ⌝ }
+{
+    let key = (t.source as u64) * 128 + (t.priority as u64);
+    let form = (key * 32 + (t.destination as u64)) * 4 + (t.form as u64);
+    let cond = (form * 64 + (t.words as u64)) * 32768 + (t.cond as u64);
+    cond * 16777216 + (t.wait as u64)
+}
+
+// The line that the number holds.
+pub fn unpacked(w: u64) -> Line
+    ensures { λ r. ⌜ r ≡ unpack w ⌝ }
+{
+    let cond = w / 16777216;
+    let form = cond / 32768 / 64;
+    let key = form / 4 / 32;
+    Line {
+        source: (key / 128 % 32) as u8,
+        destination: (form / 4 % 32) as u8,
+        priority: (key % 128) as u8,
+        form: (form % 4) as u8,
+        words: (cond / 32768 % 64) as u32,
+        wait: (w % 16777216) as u32,
+        cond: (cond % 32768) as usize,
+    }
+}
+
 // The rest of a transition behind its two states: priority, wait and condition.
 fn read_rest(s: &[u8], c: Cursor, k: u32, source: u8, destination: u8) -> LineRead
-    requires { ⌜ c .at < 800010 ⌝ }
+    requires { ⌜ (c .at < 32000) × (source < 32) × (destination < 32) ⌝ }
     ensures { λ r. ⌜ LineIs (now (s .entry)) k (restAt (now (s .entry)) k source destination (c .at)) r ⌝ }
 {
     let at = c.at;
@@ -233,11 +245,11 @@ fn read_rest(s: &[u8], c: Cursor, k: u32, source: u8, destination: u8) -> LineRe
         wait: wait,
         cond: at2,
     };
-    LineRead::Next(line, next)
+    LineRead::Next(packed(line), next)
 }
 
 fn read_transition(s: &[u8], c: Cursor, n: u32, k: u32) -> LineRead
-    requires { ⌜ c .at < 800000 ⌝ }
+    requires { ⌜ c .at < 31000 ⌝ }
     ensures { λ r. ⌜ LineIs (now (s .entry)) k (transitionAt (now (s .entry)) n k (c .at)) r ⌝ }
 {
     let g = read_names(s, c, n);
@@ -248,19 +260,17 @@ fn read_transition(s: &[u8], c: Cursor, n: u32, k: u32) -> LineRead
 }
 
 // The first m transitions.
-fn read_transitions(s: &[u8], c: Cursor, n: u32, k: u32, m: usize) -> Lines
-    requires { ⌜ (c .at ≤ 1000) × (m ≤ 128) ⌝ }
-    ensures { λ r. ⌜ HoldsLines (now (s .entry)) k (upto (transitionAt (now (s .entry)) n k) (c .at) m) m r ⌝ }
+fn read_transitions(
+    s: &[u8],
+    c: Cursor,
+    n: u32,
+    k: u32,
+    m: usize,
+    lines: &mut [u64; 128],
+) -> How
+    requires { ⌜ (c .at ≤ 1000) × (m ≤ 128) × (length (now lines) ≡ 128) ⌝ }
+    ensures { λ r. ⌜ HoldsLines (now (s .entry)) k (upto (transitionAt (now (s .entry)) n k) (c .at) m) m r (now (lines .exit)) ⌝ }
 {
-    let mut lines = [Line {
-        source: 0,
-        destination: 0,
-        priority: 0,
-        form: 0,
-        words: 0,
-        wait: 0,
-        cond: 0,
-    }; 128];
     let mut here = c;
     let mut i: usize = 0;
     while i < m {
@@ -272,17 +282,11 @@ fn read_transitions(s: &[u8], c: Cursor, n: u32, k: u32, m: usize) -> Lines
                 i += 1;
             }
             LineRead::Bad(why) => {
-                return Lines {
-                    how: How::Bad(why),
-                    lines: lines,
-                };
+                return How::Bad(why);
             }
         }
     }
-    Lines {
-        how: How::Done(here),
-        lines: lines,
-    }
+    How::Done(here)
 }
 
 // Whether nothing but zero bits up to the byte follows.
@@ -334,22 +338,13 @@ fn unread(why: Refusal) -> Decoded
         inputs: 0,
         outputs: 0,
         transitions: 0,
-        rows: [0u16; 32],
-        lines: [Line {
-            source: 0,
-            destination: 0,
-            priority: 0,
-            form: 0,
-            words: 0,
-            wait: 0,
-            cond: 0,
-        }; 128],
     }
 }
 
 // The sheet that the bytes are, or the first refusal met.
-pub fn read_sheet(s: &[u8]) -> Decoded
-    ensures { λ r. ⌜ Answers (now (s .entry)) (readSheet (now (s .entry))) r ⌝ }
+pub fn read_sheet(s: &[u8], rows: &mut [u16; 32], lines: &mut [u64; 128]) -> Decoded
+    requires { ⌜ (length (now rows) ≡ 32) × (length (now lines) ≡ 128) ⌝ }
+    ensures { λ r. ⌜ Answers (now (s .entry)) (readSheet (now (s .entry))) r (now (rows .exit)) (now (lines .exit)) ⌝ }
 {
     let h = read_header(s);
     let HeadRead::Head(head, c1) = h else {
@@ -359,27 +354,21 @@ pub fn read_sheet(s: &[u8]) -> Decoded
     let k = head.inputs;
     let l = head.outputs;
     let m = head.transitions;
-    let got_rows = read_rows(s, c1, n as usize, l as usize);
-    let how1 = got_rows.how;
+    let how1 = read_rows(s, c1, n as usize, l as usize, rows);
     let How::Done(c2) = how1 else {
         return unread(how_fault(how1));
     };
-    let got_lines = read_transitions(s, c2, n, k, m as usize);
-    let how2 = got_lines.how;
+    let how2 = read_transitions(s, c2, n, k, m as usize, lines);
     let How::Done(c3) = how2 else {
         return unread(how_fault(how2));
     };
     if ends_here(s, c3) {
-        let rows = got_rows.rows;
-        let lines = got_lines.lines;
         return Decoded {
             how: How::Done(c3),
             states: n,
             inputs: k,
             outputs: l,
             transitions: m as usize,
-            rows: rows,
-            lines: lines,
         };
     }
     let end = c3.at;

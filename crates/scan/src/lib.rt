@@ -65,14 +65,14 @@ fn took(p: Pick, line: Line) -> Pick
 }
 
 // Of the m transitions, the one that fires.
-fn choose(s: &[u8], lines: [Line; 128], m: usize, k: u32, active: u8, word: u32, clock: u32) -> Pick
+fn choose(s: &[u8], lines: &[u64; 128], m: usize, k: u32, active: u8, word: u32, clock: u32) -> Pick
     requires { ⌜ (m ≤ 128) × ((i : ℕ) → i < m → getD lines i noLine .cond < 900000) ⌝ }
     ensures { λ r. ⌜ ((ts : List Transition) → length ts ≡ m → ((i : ℕ) → i < m → Holds (now (s .entry)) k (getD lines i noLine) (getD ts i noTransition)) → Picks r (best active word clock ts)) ⌝ }
 {
     let mut best = Pick::Nothing;
     let mut i: usize = 0;
     while i < m {
-        let line = lines[i];
+        let line = reader::unpacked(lines[i]);
         if can_fire(s, line, k, active, word, clock) {
             best = took(best, line);
         }
@@ -82,7 +82,7 @@ fn choose(s: &[u8], lines: [Line; 128], m: usize, k: u32, active: u8, word: u32,
 }
 
 // The record after a scan that brought the clock forward and chose p.
-fn moved(rows: [u16; 32], record: State, clock: u32, p: Pick) -> State
+fn moved(rows: &[u16; 32], record: State, clock: u32, p: Pick) -> State
     requires { ⌜ Inside p ⌝ }
     ensures { λ r. ⌜ r ≡ movedOf rows «record» clock p ⌝ }
 {
@@ -104,7 +104,7 @@ fn moved(rows: [u16; 32], record: State, clock: u32, p: Pick) -> State
 }
 
 // A scan on a sheet that was opened.
-fn scan_opened(sheet: &[u8], o: Opened, record: State, inputs: u16, elapsed: u32) -> Scanned
+fn scan_opened(sheet: &[u8], o: Opened, rows: &[u16; 32], lines: &[u64; 128], record: State, inputs: u16, elapsed: u32) -> Scanned
     requires { ⌜ Opens (now sheet) o ⌝ }
     ensures { λ r. ⌜ r ≡ scanSheet (now (sheet .entry)) «record» inputs elapsed ⌝ }
 {
@@ -124,8 +124,6 @@ fn scan_opened(sheet: &[u8], o: Opened, record: State, inputs: u16, elapsed: u32
                 };
             }
             let clock = clock::bring_forward(record.clock, elapsed);
-            let lines = d.lines;
-            let rows = d.rows;
             let p = choose(
                 sheet,
                 lines,
@@ -147,15 +145,19 @@ fn scan_opened(sheet: &[u8], o: Opened, record: State, inputs: u16, elapsed: u32
 pub fn scan(sheet: &[u8], record: State, inputs: u16, elapsed: u32) -> Scanned
     ensures { λ r. ⌜ r ≡ scanSheet (now (sheet .entry)) «record» inputs elapsed ⌝ }
 {
-    let o = sheet::open_sheet(sheet);
-    scan_opened(sheet, o, record, inputs, elapsed)
+    let mut rows = [0u16; 32];
+    let mut lines = [0u64; 128];
+    let o = sheet::open_sheet(sheet, &mut rows, &mut lines);
+    scan_opened(sheet, o, &rows, &lines, record, inputs, elapsed)
 }
 
 // The reference's cold start, on any byte string.
 pub fn cold_scan(sheet: &[u8]) -> Scanned
     ensures { λ r. ⌜ r ≡ coldScan (now (sheet .entry)) ⌝ }
 {
-    let o = sheet::open_sheet(sheet);
+    let mut rows = [0u16; 32];
+    let mut lines = [0u64; 128];
+    let o = sheet::open_sheet(sheet, &mut rows, &mut lines);
     let verdict = o.verdict;
     match verdict {
         Checked::Refused(why) => Scanned {
@@ -167,12 +169,11 @@ pub fn cold_scan(sheet: &[u8]) -> Scanned
             },
         },
         Checked::Accepted => {
-            let d = o.decoded;
             Scanned {
                 verdict: Checked::Accepted,
                 record: State {
                     state: 0,
-                    outputs: d.rows[0],
+                    outputs: rows[0],
                     clock: 0,
                 },
             }

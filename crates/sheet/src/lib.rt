@@ -22,13 +22,13 @@ pub struct Opened {
 }
 
 // 7 LOOP: the first transition back to its own source.
-fn first_loop(lines: [Line; 128], m: usize) -> Found
+fn first_loop(lines: &[u64; 128], m: usize) -> Found
     requires { ⌜ m ≤ 128 ⌝ }
     ensures { λ r. ⌜ r ≡ firstBelow (λ i. loopLine (lineOf lines i)) m ⌝ }
 {
     let mut i: usize = 0;
     while i < m {
-        let t = lines[i];
+        let t = reader::unpacked(lines[i]);
         if t.source == t.destination {
             return Found::At(i);
         }
@@ -38,14 +38,14 @@ fn first_loop(lines: [Line; 128], m: usize) -> Found
 }
 
 // A transition's key for PAIR: two of them are equal where both its states are.
-fn pair_keys(lines: [Line; 128], m: usize) -> [u16; 128]
+fn pair_keys(lines: &[u64; 128], m: usize) -> [u16; 128]
     requires { ⌜ m ≤ 128 ⌝ }
     ensures { λ r. ⌜ Keys pairLines lines m r ⌝ }
 {
     let mut keys = [0u16; 128];
     let mut i: usize = 0;
     while i < m {
-        let t = lines[i];
+        let t = reader::unpacked(lines[i]);
         keys[i] = (t.source as u16) * 256 + (t.destination as u16);
         i += 1;
     }
@@ -53,14 +53,14 @@ fn pair_keys(lines: [Line; 128], m: usize) -> [u16; 128]
 }
 
 // A transition's key for RANK: two of them are equal where source and priority are.
-fn rank_keys(lines: [Line; 128], m: usize) -> [u16; 128]
+fn rank_keys(lines: &[u64; 128], m: usize) -> [u16; 128]
     requires { ⌜ m ≤ 128 ⌝ }
     ensures { λ r. ⌜ Keys rankLines lines m r ⌝ }
 {
     let mut keys = [0u16; 128];
     let mut i: usize = 0;
     while i < m {
-        let t = lines[i];
+        let t = reader::unpacked(lines[i]);
         keys[i] = (t.source as u16) * 256 + (t.priority as u16);
         i += 1;
     }
@@ -91,14 +91,14 @@ fn first_clash(keys: &[u16; 128], m: usize) -> Found
 }
 
 // The word whose bit s says that state s has a transition to 0; a sheet names no state above 31.
-fn homes(lines: [Line; 128], m: usize) -> u32
+fn homes(lines: &[u64; 128], m: usize) -> u32
     requires { ⌜ m ≤ 128 ⌝ }
     ensures { λ r. ⌜ Homes lines m r ⌝ }
 {
     let mut word: u32 = 0;
     let mut i: usize = 0;
     while i < m {
-        let t = lines[i];
+        let t = reader::unpacked(lines[i]);
         if (t.destination == 0) & (t.source < 32) {
             word = bits::set_bit(word, t.source as u32);
         }
@@ -108,7 +108,7 @@ fn homes(lines: [Line; 128], m: usize) -> u32
 }
 
 // 10 NO-HOME: the first state other than 0 without a transition to 0.
-fn first_no_home(lines: [Line; 128], m: usize, n: usize) -> Found
+fn first_no_home(lines: &[u64; 128], m: usize, n: usize) -> Found
     requires { ⌜ (m ≤ 128) × (n ≤ 32) ⌝ }
     ensures { λ r. ⌜ r ≡ firstBelow (lacksHomeLine lines m) n ⌝ }
 {
@@ -124,13 +124,13 @@ fn first_no_home(lines: [Line; 128], m: usize, n: usize) -> Found
 }
 
 // 11 HOME-FORM: the first transition to 0 that is not priority 0, wait 0 and NOT input 0.
-fn first_home_form(lines: [Line; 128], m: usize) -> Found
+fn first_home_form(lines: &[u64; 128], m: usize) -> Found
     requires { ⌜ m ≤ 128 ⌝ }
     ensures { λ r. ⌜ r ≡ firstBelow (λ i. homeFormLine (lineOf lines i)) m ⌝ }
 {
     let mut i: usize = 0;
     while i < m {
-        let t = lines[i];
+        let t = reader::unpacked(lines[i]);
         if (t.destination == 0) & !((t.priority == 0) & (t.wait == 0) & (t.form == 2)) {
             return Found::At(i);
         }
@@ -140,13 +140,13 @@ fn first_home_form(lines: [Line; 128], m: usize) -> Found
 }
 
 // 12 GATE: the first transition from 0 whose condition has neither form; no value of the condition is asked.
-fn first_gate(lines: [Line; 128], m: usize) -> Found
+fn first_gate(lines: &[u64; 128], m: usize) -> Found
     requires { ⌜ m ≤ 128 ⌝ }
     ensures { λ r. ⌜ r ≡ firstBelow (λ i. gateLine (lineOf lines i)) m ⌝ }
 {
     let mut i: usize = 0;
     while i < m {
-        let t = lines[i];
+        let t = reader::unpacked(lines[i]);
         if (t.source == 0) & !((t.form == 1) | (t.form == 3)) {
             return Found::At(i);
         }
@@ -156,7 +156,7 @@ fn first_gate(lines: [Line; 128], m: usize) -> Found
 }
 
 // 13 ACTIVITY: the first state whose output 0 is not whether it is state 0.
-fn first_activity(rows: [u16; 32], n: usize) -> Found
+fn first_activity(rows: &[u16; 32], n: usize) -> Found
     requires { ⌜ n ≤ 32 ⌝ }
     ensures { λ r. ⌜ r ≡ firstBelow (activityRow rows) n ⌝ }
 {
@@ -172,7 +172,7 @@ fn first_activity(rows: [u16; 32], n: usize) -> Found
 }
 
 // The numbers 10 to 13, lowest first.
-fn judge_forms(lines: [Line; 128], m: usize, rows: [u16; 32], n: usize) -> Checked
+fn judge_forms(lines: &[u64; 128], m: usize, rows: &[u16; 32], n: usize) -> Checked
     requires { ⌜ (m ≤ 128) × (n ≤ 32) ⌝ }
     ensures { λ r. ⌜ r ≡ judgeForms lines m rows n ⌝ }
 {
@@ -195,11 +195,10 @@ fn judge_forms(lines: [Line; 128], m: usize, rows: [u16; 32], n: usize) -> Check
 }
 
 // The numbers 7 to 13 of a sheet read to its end, the lowest first.
-fn judge_decoded(d: Decoded) -> Checked
+fn judge_decoded(d: Decoded, rows: &[u16; 32], lines: &[u64; 128]) -> Checked
     requires { ⌜ (d .transitions ≤ 128) × (d .states ≤ 32) ⌝ }
     ensures { λ r. ⌜ ((s : List ℕ) (a : Sheet) → Copy s d a → r ≡ judge a) ⌝ }
 {
-    let lines = d.lines;
     let m = d.transitions;
     let to_itself = first_loop(lines, m);
     if let Found::At(i) = to_itself {
@@ -215,15 +214,14 @@ fn judge_decoded(d: Decoded) -> Checked
     if let Found::At(i) = rank {
         return Checked::Refused(Refusal::Rank(i));
     }
-    let rows = d.rows;
     judge_forms(lines, m, rows, d.states as usize)
 }
 
 // A sheet that is checked and decoded once, for the crates that go on with it.
-pub fn open_sheet(sheet: &[u8]) -> Opened
+pub fn open_sheet(sheet: &[u8], rows: &mut [u16; 32], lines: &mut [u64; 128]) -> Opened
     ensures { λ r. ⌜ Opens (now (sheet .entry)) r ⌝ }
 {
-    let d = reader::read_sheet(sheet);
+    let d = reader::read_sheet(sheet, rows, lines);
     let how = d.how;
     match how {
         How::Bad(why) => Opened {
@@ -231,7 +229,7 @@ pub fn open_sheet(sheet: &[u8]) -> Opened
             decoded: d,
         },
         How::Done(_) => {
-            let verdict = judge_decoded(d);
+            let verdict = judge_decoded(d, &*rows, &*lines);
             Opened {
                 verdict: verdict,
                 decoded: d,
@@ -244,6 +242,8 @@ pub fn open_sheet(sheet: &[u8]) -> Opened
 pub fn check_sheet(sheet: &[u8]) -> Checked
     ensures { λ r. ⌜ r ≡ checkSheet (now (sheet .entry)) ⌝ }
 {
-    let o = open_sheet(sheet);
+    let mut rows = [0u16; 32];
+    let mut lines = [0u64; 128];
+    let o = open_sheet(sheet, &mut rows, &mut lines);
     o.verdict
 }

@@ -8,9 +8,11 @@ use Rattle.bits.specs.declared.Got.the-variants as got
 use Rattle.bits.proofs.FieldLaws.{Here, field-got}
 use Rattle.condition.specs.Reading.{conditionAt}
 use Rattle.condition.specs.declared.Facts.{Facts}
-use Rattle.condition.proofs.Laws.{forget-next, forget-bad}
+use Rattle.condition.proofs.Laws.{forget-next, forget-bad, told}
 use Rattle.reader.specs.Decoding.{restAt, condFault}
 use Rattle.reader.specs.declared.LineRead.the-variants as lineread
+use Rattle.reader.specs.Packing.{unpack, Fits}
+use Rattle.reader.proofs.PackLaws.{unpack-pack, form-few}
 use Rattle.reader.proofs.read_rest.Statement.{statement}
 use Rattle.reader.proofs.read_rest.Tie as tie
 
@@ -77,27 +79,47 @@ returns-3 c =
 cast-t22 : tie.Need-cast-t22
 cast-t22 c = omega (arith, near1 (c .before .before .before .before .before .before .before .before) .below)
 
-returns-4 : tie.Need-returns-4
-unfolding restAt
-returns-4 c =
+-- the line, which is packed
+fits : (c : tie.After-known-told3) → Fits (record { source = c .before .before .before .before .before .before .before .before .before .before .before .before .before .args .source; destination = c .before .before .before .before .before .before .before .before .before .before .before .before .before .args .destination; priority = c .before .before .before .before .before .before .before .before .before .g1 .given .0 .0; form = c .before .a .given .0 .1 .0 .form; words = c .before .a .given .0 .1 .0 .words; wait = c .before .before .before .before .before .g2 .given .0 .0; cond = c .before .before .before .before .before .g2 .given .0 .1 .0 .at })
+fits c =
     let a = c .before .a .given in
     let e = sym (c .before .before .before .read-condition .ensures) ∙ a .1 in
     let x = forget-next 0 (conditionAt (c .before .before .before .before .before .before .before .before .before .before .before .before .before .args .s .now) (c .before .before .before .before .before .before .before .before .before .before .before .before .before .args .k) (c .before .before .before .before .before .g2 .given .0 .1 .0 .at)) (a .0 .0) (a .0 .1 .0) e in
-    rw (there1 (c .before .before .before .before .before .before .before .before), there2 (c .before .before .before .before), x .1) (
+    record {
+      source = omega arith;
+      destination = omega arith;
+      priority = near1 (c .before .before .before .before .before .before .before .before) .below;
+      form = rw (ap (λ (f : Facts). f .form) (x .2)) (form-few (x .0 .tree));
+      words = omega (arith, told 0 8 (c .before .before .before .before .before .before .before .before .before .before .before .before .before .args .s .now) (c .before .before .before .before .before .before .before .before .before .before .before .before .before .args .k) 0 (c .before .before .before .before .before .g2 .given .0 .1 .0 .at) (a .0 .0) (a .0 .1 .0) e .words);
+      wait = near2 (c .before .before .before .before) .below;
+      cond = omega (arith, near1 (c .before .before .before .before .before .before .before .before) .after, near2 (c .before .before .before .before) .after);
+    }
+
+packed-requires : tie.Need-packed-requires
+packed-requires c κs = fits c
+
+returns-4 : tie.Need-returns-4
+unfolding restAt
+returns-4 c =
+    let a = c .before .before .a .given in
+    let e = sym (c .before .before .before .before .read-condition .ensures) ∙ a .1 in
+    let x = forget-next 0 (conditionAt (c .before .before .before .before .before .before .before .before .before .before .before .before .before .before .args .s .now) (c .before .before .before .before .before .before .before .before .before .before .before .before .before .before .args .k) (c .before .before .before .before .before .before .g2 .given .0 .1 .0 .at)) (a .0 .0) (a .0 .1 .0) e in
+    let back = ap unpack (c .packed .ensures) ∙ unpack-pack _ (fits (c .before)) in
+    rw (there1 (c .before .before .before .before .before .before .before .before .before), there2 (c .before .before .before .before .before), x .1) (
       _,
       refl,
-      record {
+      rw back (record {
         source = refl;
         destination = refl;
         priority = refl;
         wait = refl;
         form = ap (λ (f : Facts). f .form) (x .2);
         words = ap (λ (f : Facts). f .words) (x .2);
-        near = omega (arith, near1 (c .before .before .before .before .before .before .before .before) .after, near2 (c .before .before .before .before) .after);
+        near = omega (arith, near1 (c .before .before .before .before .before .before .before .before .before) .after, near2 (c .before .before .before .before .before) .after);
         nodes = x .0 .count;
         next = a .0 .0 .at;
         there = x .1;
-      },
+      }),
     )
 
 pub read-rest-spec : {M : Type 1} → statement M
@@ -118,4 +140,5 @@ read-rest-spec =
     cond-fault-requires
     returns-3
     cast-t22
+    packed-requires
     returns-4)

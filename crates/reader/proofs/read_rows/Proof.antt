@@ -28,7 +28,7 @@ abbrev μ-loop : tie.MeasureT-loop
 
 loop-holds : tie.Need-loop-holds Inv-loop μ-loop
 unfolding upto
-loop-holds c = (refl, omega arith, omega arith, [], refl, λ j h. absurd (omega arith))
+loop-holds c = (omega arith, omega arith, omega arith, [], refl, λ j h. absurd (omega arith))
 
 read-row-requires : tie.Need-read-row-requires Inv-loop μ-loop
 read-row-requires c κs = omega arith
@@ -39,8 +39,8 @@ enum-known-g c = search needs
 mul-rows : tie.Need-mul-rows Inv-loop μ-loop
 mul-rows c = omega arith
 
-array-write-rows : tie.Need-array-write-rows Inv-loop μ-loop
-array-write-rows c = omega arith
+element-write-rows : tie.Need-element-write-rows Inv-loop μ-loop
+element-write-rows c = omega arith
 
 add-i : tie.Need-add-i Inv-loop μ-loop
 add-i c = omega arith
@@ -94,7 +94,7 @@ read-rows-spec =
     read-row-requires
     enum-known-g
     mul-rows
-    array-write-rows
+    element-write-rows
     add-i
     loop-less
     loop-again

@@ -11,7 +11,8 @@ use Rattle.bits.specs.Read.{ok, no, upto}
 use Rattle.bits.proofs.ReadLaws.{upto-length}
 use Rattle.reader.specs.Sheet.{Transition, noTransition}
 use Rattle.reader.specs.Reading.{readHeader, rowAt, transitionAt, readSheet}
-use Rattle.reader.specs.Decoding.{Holds, noLine, headFault, howFault}
+use Rattle.reader.specs.Packing.{lineAt}
+use Rattle.reader.specs.Decoding.{Holds, headFault, howFault}
 use Rattle.reader.specs.declared.How.the-variants as how
 use Rattle.reader.proofs.Laws.{
   Headed,
@@ -38,30 +39,29 @@ headed c = header-fits (c .before .before .before .before .before .args .s .now)
 -- the rows are read
 rows-are : (c : tie.After-known-told2)
     → (xs : List (List Bool))
-    × (upto (rowAt (c .before .before .before .before .before .before .before .before .before .args .s .now) (c .before .before .before .before .before .h .given .0 .0 .outputs)) (c .before .before .before .before .before .h .given .0 .1 .0 .at) (c .before .before .before .before .before .h .given .0 .0 .states)
-    ≡ ok xs (c .before .how1 .given .0 .0 .at))
-    × ((i : ℕ) → i < c .before .before .before .before .before .h .given .0 .0 .states → getD (c .before .before .before .read-rows .result .rows) i 0 ≡ wordOf (getD xs i []))
+    × (upto (rowAt (c .before .before .before .before .before .before .before .before .before .before .args .s .now) (c .before .before .before .before .before .before .h .given .0 .0 .outputs)) (c .before .before .before .before .before .before .h .given .0 .1 .0 .at) (c .before .before .before .before .before .before .h .given .0 .0 .states) ≡ ok xs (c .before .how1 .given .0 .0 .at))
+    × ((i : ℕ) → i < c .before .before .before .before .before .before .h .given .0 .0 .states → getD (c .before .before .before .read-rows .last .1 .1 .1 .1 .0) i 0 ≡ wordOf (getD xs i []))
 rows-are c =
-    rows-done _ (c .before .before .before .before .before .h .given .0 .0 .states) (c .before .before .before .read-rows .result) (c .before .how1 .given .0 .0) (c .before .before .before .read-rows .ensures) (c .before .how1 .given .1)
+    rows-done _ (c .before .before .before .before .before .before .h .given .0 .0 .states) (c .before .before .before .read-rows .result) _ (c .before .how1 .given .0 .0) (c .before .before .before .read-rows .ensures) (c .before .how1 .given .1)
 
 rows-end : (c : tie.After-known-told2) → c .before .how1 .given .0 .0 .at ≤ 532
 rows-end c =
-    let h = headed (c .before .before .before .before) in
+    let h = headed (c .before .before .before .before .before) in
     omega (
       arith,
-      rows-next (c .before .before .before .before .before .before .before .before .before .args .s .now) (c .before .before .before .before .before .h .given .0 .0 .outputs) (c .before .before .before .before .before .h .given .0 .1 .0 .at) (c .before .before .before .before .before .h .given .0 .0 .states) (h .outputs .1) (h .states .1) (rows-are c .1),
+      rows-next (c .before .before .before .before .before .before .before .before .before .before .args .s .now) (c .before .before .before .before .before .before .h .given .0 .0 .outputs) (c .before .before .before .before .before .before .h .given .0 .1 .0 .at) (c .before .before .before .before .before .before .h .given .0 .0 .states) (h .outputs .1) (h .states .1) (rows-are c .1),
       h .after,
     )
 
 -- the transitions are read
 lines-are : (c : tie.After-known-told3)
     → (ts : List Transition)
-    × (upto (transitionAt (c .before .before .before .before .before .before .before .before .before .before .before .before .before .args .s .now) (c .before .before .before .before .before .before .before .before .before .h .given .0 .0 .states) (c .before .before .before .before .before .before .before .before .before .h .given .0 .0 .inputs)) (c .before .before .before .before .before .how1 .given .0 .0 .at) (c .before .before .before .before .before .before .before .before .before .h .given .0 .0 .transitions)
+    × (upto (transitionAt (c .before .before .before .before .before .before .before .before .before .before .before .before .before .before .before .args .s .now) (c .before .before .before .before .before .before .before .before .before .before .before .h .given .0 .0 .states) (c .before .before .before .before .before .before .before .before .before .before .before .h .given .0 .0 .inputs)) (c .before .before .before .before .before .before .how1 .given .0 .0 .at) (c .before .before .before .before .before .before .before .before .before .before .before .h .given .0 .0 .transitions)
     ≡ ok ts (c .before .how2 .given .0 .0 .at))
-    × ((i : ℕ) → i < c .before .before .before .before .before .before .before .before .before .h .given .0 .0 .transitions
-    → Holds (c .before .before .before .before .before .before .before .before .before .before .before .before .before .args .s .now) (c .before .before .before .before .before .before .before .before .before .h .given .0 .0 .inputs) (getD (c .before .before .before .read-transitions .result .lines) i noLine) (getD ts i noTransition))
+    × ((i : ℕ) → i < c .before .before .before .before .before .before .before .before .before .before .before .h .given .0 .0 .transitions
+    → Holds (c .before .before .before .before .before .before .before .before .before .before .before .before .before .before .before .args .s .now) (c .before .before .before .before .before .before .before .before .before .before .before .h .given .0 .0 .inputs) (lineAt (c .before .before .before .read-transitions .last .1 .1 .1 .1 .1 .0) i) (getD ts i noTransition))
 lines-are c =
-    lines-done (c .before .before .before .before .before .before .before .before .before .before .before .before .before .args .s .now) (c .before .before .before .before .before .before .before .before .before .h .given .0 .0 .inputs) _ (c .before .before .before .before .before .before .before .before .before .h .given .0 .0 .transitions) (c .before .before .before .read-transitions .result) (c .before .how2 .given .0 .0)
+    lines-done (c .before .before .before .before .before .before .before .before .before .before .before .before .before .before .before .args .s .now) (c .before .before .before .before .before .before .before .before .before .before .before .h .given .0 .0 .inputs) _ (c .before .before .before .before .before .before .before .before .before .before .before .h .given .0 .0 .transitions) (c .before .before .before .read-transitions .result) _ (c .before .how2 .given .0 .0)
     (c .before .before .before .read-transitions .ensures)
     (c .before .how2 .given .1)
 
@@ -94,7 +94,7 @@ cast-read-rows-2 : tie.Need-cast-read-rows-2
 cast-read-rows-2 c = search needs
 
 read-rows-requires : tie.Need-read-rows-requires
-read-rows-requires c κs = let h = headed c in omega arith
+read-rows-requires c κs = let h = headed (c .before) in omega arith
 
 enum-known-how1 : tie.Need-enum-known-how1
 enum-known-how1 c = search needs
@@ -112,15 +112,15 @@ returns-2 : tie.Need-returns-2
 unfolding readSheet
 returns-2 c =
     let told = c .before .before .enum-told2 .given in
-    let h = c .before .before .before .before .before .before .h .given in
-    let e = rows-bad (upto (rowAt (c .before .before .before .before .before .before .before .before .before .before .args .s .now) (h .0 .0 .outputs)) (h .0 .1 .0 .at) (h .0 .0 .states)) (h .0 .0 .states) (c .before .before .before .before .read-rows .result) (told .0 .0) (c .before .before .before .before .read-rows .ensures) (told .1) in
-    rw (head-is (c .before .before .before .before .before), e) (c .unread2 .ensures ∙ ap how.Bad (c .before .how-fault .ensures ∙ ap howFault (told .1)))
+    let h = c .before .before .before .before .before .before .before .h .given in
+    let e = rows-bad (upto (rowAt (c .before .before .before .before .before .before .before .before .before .before .before .args .s .now) (h .0 .0 .outputs)) (h .0 .1 .0 .at) (h .0 .0 .states)) (h .0 .0 .states) (c .before .before .before .before .read-rows .result) _ (told .0 .0) (c .before .before .before .before .read-rows .ensures) (told .1) in
+    rw (head-is (c .before .before .before .before .before .before), e) (c .unread2 .ensures ∙ ap how.Bad (c .before .how-fault .ensures ∙ ap howFault (told .1)))
 
 cast-read-transitions : tie.Need-cast-read-transitions
 cast-read-transitions c = search needs
 
 read-transitions-requires : tie.Need-read-transitions-requires
-read-transitions-requires c κs = let h = headed (c .before .before .before .before) in omega (arith, rows-end c)
+read-transitions-requires c κs = let h = headed (c .before .before .before .before .before .before) in omega (arith, rows-end (c .before))
 
 enum-known-how2 : tie.Need-enum-known-how2
 enum-known-how2 c = search needs
@@ -138,17 +138,17 @@ returns-3 : tie.Need-returns-3
 unfolding readSheet
 returns-3 c =
     let told = c .before .before .enum-told3 .given in
-    let h = c .before .before .before .before .before .before .before .before .before .before .h .given in
-    let e = lines-bad (c .before .before .before .before .before .before .before .before .before .before .before .before .before .before .args .s .now) (h .0 .0 .inputs) (upto (transitionAt (c .before .before .before .before .before .before .before .before .before .before .before .before .before .before .args .s .now) (h .0 .0 .states) (h .0 .0 .inputs)) (c .before .before .before .before .before .before .how1 .given .0 .0 .at) (h .0 .0 .transitions)) (h .0 .0 .transitions) (c .before .before .before .before .read-transitions .result) (told .0 .0) (c .before .before .before .before .read-transitions .ensures) (told .1) in
-    rw (head-is (c .before .before .before .before .before .before .before .before .before), rows-are (c .before .before .before .before .before) .1, e) (c .unread3 .ensures ∙ ap how.Bad (c .before .how-fault2 .ensures ∙ ap howFault (told .1)))
+    let h = c .before .before .before .before .before .before .before .before .before .before .before .before .h .given in
+    let e = lines-bad (c .before .before .before .before .before .before .before .before .before .before .before .before .before .before .before .before .args .s .now) (h .0 .0 .inputs) (upto (transitionAt (c .before .before .before .before .before .before .before .before .before .before .before .before .before .before .before .before .args .s .now) (h .0 .0 .states) (h .0 .0 .inputs)) (c .before .before .before .before .before .before .before .how1 .given .0 .0 .at) (h .0 .0 .transitions)) (h .0 .0 .transitions) (c .before .before .before .before .read-transitions .result) _ (told .0 .0) (c .before .before .before .before .read-transitions .ensures) (told .1) in
+    rw (head-is (c .before .before .before .before .before .before .before .before .before .before .before), rows-are (c .before .before .before .before .before .before) .1, e) (c .unread3 .ensures ∙ ap how.Bad (c .before .how-fault2 .ensures ∙ ap howFault (told .1)))
 
 ends-here-requires : tie.Need-ends-here-requires
 ends-here-requires c κs =
-    let h = headed (c .before .before .before .before .before .before .before .before) in
+    let h = headed (c .before .before .before .before .before .before .before .before .before .before) in
     omega (
       arith,
-      rows-end (c .before .before .before .before),
-      transitions-next (c .before .before .before .before .before .before .before .before .before .before .before .before .before .args .s .now) (c .before .before .before .before .before .before .before .before .before .h .given .0 .0 .states) (c .before .before .before .before .before .before .before .before .before .h .given .0 .0 .inputs) (c .before .before .before .before .before .how1 .given .0 .0 .at) (c .before .before .before .before .before .before .before .before .before .h .given .0 .0 .transitions) (h .transitions .1) (lines-are c .1),
+      rows-end (c .before .before .before .before .before),
+      transitions-next (c .before .before .before .before .before .before .before .before .before .before .before .before .before .before .before .args .s .now) (c .before .before .before .before .before .before .before .before .before .before .before .h .given .0 .0 .states) (c .before .before .before .before .before .before .before .before .before .before .before .h .given .0 .0 .inputs) (c .before .before .before .before .before .before .how1 .given .0 .0 .at) (c .before .before .before .before .before .before .before .before .before .before .before .h .given .0 .0 .transitions) (h .transitions .1) (lines-are c .1),
     )
 
 cast-t25 : tie.Need-cast-t25
@@ -158,10 +158,10 @@ returns-4 : tie.Need-returns-4
 unfolding readSheet
 returns-4 c =
     let h = c .before .before .before .before .before .before .before .before .before .before .before .before .before .h .given in
-    let rows = rows-are (c .before .before .before .before .before .before .before .before) in
-    let lines = lines-are (c .before .before .before .before) in
-    let ended = sym (c .before .before .before .ends-here .ensures) ∙ c .before .before .if1 .taken in
-    let m = upto-length (transitionAt (c .before .before .before .before .before .before .before .before .before .before .before .before .before .before .before .before .before .args .s .now) (h .0 .0 .states) (h .0 .0 .inputs)) (c .before .before .before .before .before .before .before .before .before .how1 .given .0 .0 .at) (h .0 .0 .transitions) (lines .1) in
+    let rows = rows-are (c .before .before .before .before .before .before .before) in
+    let lines = lines-are (c .before .before) in
+    let ended = sym (c .before .ends-here .ensures) ∙ c .if1 .taken in
+    let m = upto-length (transitionAt (c .before .before .before .before .before .before .before .before .before .before .before .before .before .before .before .before .before .args .s .now) (h .0 .0 .states) (h .0 .0 .inputs)) (c .before .before .before .before .before .before .before .before .how1 .given .0 .0 .at) (h .0 .0 .transitions) (lines .1) in
     rw (head-is (c .before .before .before .before .before .before .before .before .before .before .before .before), rows .1, lines .1, ended) (
       refl,
       record {
@@ -181,7 +181,7 @@ returns-5 : tie.Need-returns-5
 unfolding readSheet
 returns-5 c =
     let ended = sym (c .before .before .ends-here .ensures) ∙ c .before .if1 .left in
-    rw (head-is (c .before .before .before .before .before .before .before .before .before .before .before), rows-are (c .before .before .before .before .before .before .before) .1, lines-are (c .before .before .before) .1, ended) (c .unread4 .ensures)
+    rw (head-is (c .before .before .before .before .before .before .before .before .before .before .before .before .before), rows-are (c .before .before .before .before .before .before .before .before) .1, lines-are (c .before .before .before) .1, ended) (c .unread4 .ensures)
 
 pub read-sheet-spec : {M : Type 1} → statement M
 read-sheet-spec =

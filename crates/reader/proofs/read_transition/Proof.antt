@@ -4,7 +4,7 @@ use mathlib.Core.Path.{_≡_, refl, sym, ap, _∙_}
 use native.Mathlib.Omega.{arith}
 use Rattle.bits.specs.Read.{ok, no}
 use Rattle.reader.specs.Decoding.{namesAt}
-use Rattle.reader.proofs.Laws.{transition-is, names-got, names-bad, names-next}
+use Rattle.reader.proofs.Laws.{transition-is, names-got, names-bad, names-next, names-few}
 use Rattle.reader.proofs.read_transition.Statement.{statement}
 use Rattle.reader.proofs.read_transition.Tie as tie
 
@@ -21,7 +21,8 @@ named : (c : tie.After-known-told)
 named c = names-got _ _ _ _ (sym (c .before .before .before .read-names .ensures) ∙ c .before .g .given .1)
 
 read-rest-requires : tie.Need-read-rest-requires
-read-rest-requires c κs = omega (arith, names-next (c .before .before .before .before .before .args .s .now) (c .before .before .before .before .before .args .n) (c .before .before .before .before .before .args .c .at) (named c))
+read-rest-requires c κs = let few = names-few (c .before .before .before .before .before .args .s .now) (c .before .before .before .before .before .args .n) (c .before .before .before .before .before .args .c .at) (named c) in
+    omega (arith, few .0, few .1, names-next (c .before .before .before .before .before .args .s .now) (c .before .before .before .before .before .args .n) (c .before .before .before .before .before .args .c .at) (named c))
 
 enum-known-g-2 : tie.Need-enum-known-g-2
 enum-known-g-2 c = search needs

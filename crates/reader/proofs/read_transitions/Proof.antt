@@ -9,7 +9,8 @@ use Rattle.bits.specs.Read.{ok, upto}
 use Rattle.bits.proofs.ReadLaws.{upto-more, upto-bad, upto-length}
 use Rattle.reader.specs.Sheet.{Transition, noTransition}
 use Rattle.reader.specs.Reading.{transitionAt}
-use Rattle.reader.specs.Decoding.{Holds, noLine}
+use Rattle.reader.specs.Decoding.{Holds}
+use Rattle.reader.specs.Packing.{unpack}
 use Rattle.reader.proofs.FillLaws.{Filled, filled-more}
 use Rattle.reader.proofs.Laws.{line-got, line-bad, transition-next}
 use Rattle.reader.proofs.read_transitions.Statement.{statement}
@@ -18,14 +19,14 @@ use Rattle.reader.proofs.read_transitions.Tie as tie
 abbrev Inv-loop : tie.InvT-loop
 Inv-loop s n k m lines₀ here₀ i₀ lines here i =
     (length lines ≡ 128) × (i ≤ m) × (here .at ≤ 1000 + 227 * i) × (ts : List Transition) × (upto (transitionAt s n k) (here₀ .at) i ≡ ok ts (here .at))
-    × Filled (Holds s k) noLine noTransition lines ts i
+    × Filled (λ w t. Holds s k (unpack w) t) 0 noTransition lines ts i
 
 abbrev μ-loop : tie.MeasureT-loop
 μ-loop s n k m lines₀ here₀ i₀ lines here i = m - i
 
 loop-holds : tie.Need-loop-holds Inv-loop μ-loop
 unfolding upto
-loop-holds c = (refl, omega arith, omega arith, [], refl, λ j h. absurd (omega arith))
+loop-holds c = (omega arith, omega arith, omega arith, [], refl, λ j h. absurd (omega arith))
 
 read-transition-requires : tie.Need-read-transition-requires Inv-loop μ-loop
 read-transition-requires c κs = omega arith
@@ -36,8 +37,8 @@ enum-known-g c = search needs
 mul-lines : tie.Need-mul-lines Inv-loop μ-loop
 mul-lines c = omega arith
 
-array-set-from-lines : tie.Need-array-set-from-lines Inv-loop μ-loop
-array-set-from-lines c = omega arith
+element-write-lines : tie.Need-element-write-lines Inv-loop μ-loop
+element-write-lines c = omega arith
 
 add-i : tie.Need-add-i Inv-loop μ-loop
 add-i c = omega arith
@@ -56,7 +57,7 @@ loop-again c =
       omega (arith, transition-next (a .s .now) (a .n) (a .k) (l .here .at) (x .1)),
       l .inv .3 ++ x .0 ∷ [],
       upto-more (transitionAt (a .s .now) (a .n) (a .k)) (a .c .at) (l .i) (l .inv .4) (x .1),
-      filled-more (Holds (a .s .now) (a .k)) noLine noTransition (l .lines) (l .inv .3) (l .i) (g .0 .0) (x .0) (omega arith)
+      filled-more (λ w t. Holds (a .s .now) (a .k) (unpack w) t) 0 noTransition (l .lines) (l .inv .3) (l .i) (g .0 .0) (x .0) (omega arith)
           (upto-length (transitionAt (a .s .now) (a .n) (a .k)) (a .c .at) (l .i) (l .inv .4))
           (l .inv .5)
           (x .2),
@@ -91,7 +92,7 @@ read-transitions-spec =
     read-transition-requires
     enum-known-g
     mul-lines
-    array-set-from-lines
+    element-write-lines
     add-i
     loop-less
     loop-again
