@@ -15,7 +15,8 @@ use Rattle.answer.specs.Lowest.{anyBelow, firstBelow}
 use Rattle.answer.specs.declared.Found.the-variants.{At, Nothing}
 use Rattle.answer.proofs.Laws.{any-more, any-hit, any-same, first-more, first-hit, first-same}
 use Rattle.reader.specs.declared.Line.{Line}
-use Rattle.sheet.specs.Lines.{lineOf, clashBelow, firstClash, Keys, alikeBelow, firstAlike}
+use Rattle.reader.specs.Packing.{lineAt}
+use Rattle.sheet.specs.Lines.{clashBelow, firstClash, Keys, alikeBelow, firstAlike}
 use Rattle.sheet.proofs.SearchLaws.{search-end}
 
 module _ (keys : List ℕ) where
@@ -53,12 +54,12 @@ module _ (keys : List ℕ) where
   clash-end later m l h = search-end (λ j. alikeBelow keys j j) m later l h
 
 -- so the search goes by the keys
-pub by-keys : (same : Line → Line → Bool) (lines : List Line) (m : ℕ) (keys : List ℕ) → Keys same lines m keys
+pub by-keys : (same : Line → Line → Bool) (lines : List ℕ) (m : ℕ) (keys : List ℕ) → Keys same lines m keys
     → firstAlike keys m ≡ firstClash same lines m
 unfolding firstAlike firstClash
 by-keys same lines m keys h =
     first-same (λ j. alikeBelow keys j j) (λ j. clashBelow same lines j j) m
-    λ j l. any-same (λ i. eqb (getD keys i 0) (getD keys j 0)) (λ i. same (lineOf lines i) (lineOf lines j)) j
+    λ j l. any-same (λ i. eqb (getD keys i 0) (getD keys j 0)) (λ i. same (lineAt lines i) (lineAt lines j)) j
     λ i b. h i j (omega arith) l
 
 -- a key made of two bytes is another one where both bytes are the other's
@@ -75,14 +76,14 @@ key-same a b c d l m = go (eqb a c) refl (eqb b d) refl
         ne-eqb (a * 256 + b) (c * 256 + d) (λ (e : a * 256 + b ≡ c * 256 + d). n (omega arith))
 
 -- the first i keys are made of their lines' sources and of another byte of them
-module _ (byte : Line → ℕ) (lines : List Line) where
+module _ (byte : Line → ℕ) (lines : List ℕ) where
   abbrev pub keyOf : ℕ → ℕ
-  keyOf i = lineOf lines i .source * 256 + byte (lineOf lines i)
+  keyOf i = lineAt lines i .source * 256 + byte (lineAt lines i)
 
   abbrev pub Made : List ℕ → ℕ → Type 0
-  Made keys i = (j : ℕ) → j < i → (getD keys j 0 ≡ keyOf j) × (byte (lineOf lines j) < 256)
+  Made keys i = (j : ℕ) → j < i → (getD keys j 0 ≡ keyOf j) × (byte (lineAt lines j) < 256)
 
-  pub made-more : (keys : List ℕ) (i : ℕ) → i < length keys → byte (lineOf lines i) < 256 → Made keys i → Made (set keys i (keyOf i)) (i + 1)
+  pub made-more : (keys : List ℕ) (i : ℕ) → i < length keys → byte (lineAt lines i) < 256 → Made keys i → Made (set keys i (keyOf i)) (i + 1)
   made-more keys i l b f j h =
       ⊎-elim (λ (q : j ≡ i). rw q (getD-set-same keys i (keyOf i) 0 l, b))
       (λ (q : j < i). let n : j ≢ i = (λ z. omega arith) in (getD-set-other keys i j (keyOf i) 0 n ∙ f j q .0, f j q .1))
@@ -93,4 +94,4 @@ module _ (byte : Line → ℕ) (lines : List Line) where
   made-keys keys m n e f i j l b =
       let t = f i (omega arith) in
       let u = f j (omega arith) in
-      rw (t .0, u .0) (key-same (lineOf lines i .source) (byte (lineOf lines i)) (lineOf lines j .source) (byte (lineOf lines j)) (t .1) (u .1))
+      rw (t .0, u .0) (key-same (lineAt lines i .source) (byte (lineAt lines i)) (lineAt lines j .source) (byte (lineAt lines j)) (t .1) (u .1))

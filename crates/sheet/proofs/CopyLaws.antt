@@ -22,8 +22,8 @@ use Rattle.sheet.specs.Judging.{
   wrongActivity,
   judge,
 }
+use Rattle.reader.specs.Packing.{lineAt}
 use Rattle.sheet.specs.Lines.{
-  lineOf,
   loopLine,
   pairLines,
   rankLines,
@@ -40,35 +40,35 @@ use Rattle.sheet.specs.Lines.{
 use Rattle.sheet.proofs.FormLaws.{off-form, gated-form}
 use Rattle.sheet.proofs.RowLaws.{bit-first}
 
-module _ (s : List ℕ) (d : Decoded) (a : Sheet) (k : Copy s d a) where
+module _ (s : List ℕ) (d : Decoded) (rows lines : List ℕ) (a : Sheet) (k : Copy s d rows lines a) where
   -- a test of one line and a test of its transition that agree
-  lines-same : (p : Line → Bool) (q : Transition → Bool) → ((i : ℕ) → i < count a → p (lineOf (d .lines) i) ≡ q (transitionOf a i))
-      → firstBelow (λ i. p (lineOf (d .lines) i)) (d .transitions) ≡ firstBelow (λ i. q (transitionOf a i)) (count a)
-  lines-same p q h = rw (k .transitions) (first-same (λ i. p (lineOf (d .lines) i)) (λ i. q (transitionOf a i)) (count a) h)
+  lines-same : (p : Line → Bool) (q : Transition → Bool) → ((i : ℕ) → i < count a → p (lineAt lines i) ≡ q (transitionOf a i))
+      → firstBelow (λ i. p (lineAt lines i)) (d .transitions) ≡ firstBelow (λ i. q (transitionOf a i)) (count a)
+  lines-same p q h = rw (k .transitions) (first-same (λ i. p (lineAt lines i)) (λ i. q (transitionOf a i)) (count a) h)
 
   clash-same : (p : Line → Line → Bool) (q : Transition → Transition → Bool)
-      → ((i j : ℕ) → i < count a → j < count a → p (lineOf (d .lines) i) (lineOf (d .lines) j) ≡ q (transitionOf a i) (transitionOf a j))
-      → firstClash p (d .lines) (d .transitions) ≡ firstBelow (clashes q a) (count a)
+      → ((i j : ℕ) → i < count a → j < count a → p (lineAt lines i) (lineAt lines j) ≡ q (transitionOf a i) (transitionOf a j))
+      → firstClash p lines (d .transitions) ≡ firstBelow (clashes q a) (count a)
   unfolding firstClash clashes
   clash-same p q h =
       rw (k .transitions)
-      (first-same (λ j. anyBelow (λ i. p (lineOf (d .lines) i) (lineOf (d .lines) j)) j) (clashes q a) (count a)
-      λ j l. any-same (λ i. p (lineOf (d .lines) i) (lineOf (d .lines) j)) (λ i. q (transitionOf a i) (transitionOf a j)) j
+      (first-same (λ j. anyBelow (λ i. p (lineAt lines i) (lineAt lines j)) j) (clashes q a) (count a)
+      λ j l. any-same (λ i. p (lineAt lines i) (lineAt lines j)) (λ i. q (transitionOf a i) (transitionOf a j)) j
       λ i b. h i j (omega arith) l)
 
-  home-same : firstBelow (lacksHomeLine (d .lines) (d .transitions)) (d .states) ≡ firstBelow (lacksHome a) (a .states)
+  home-same : firstBelow (lacksHomeLine lines (d .transitions)) (d .states) ≡ firstBelow (lacksHome a) (a .states)
   unfolding hasHome lacksHome
   home-same =
       rw (k .transitions, k .states)
-      (first-same (lacksHomeLine (d .lines) (count a)) (lacksHome a) (a .states)
-      λ n l. rw (any-same (λ i. homeLine n (lineOf (d .lines) i)) (λ i. goesHome n (transitionOf a i)) (count a)
+      (first-same (lacksHomeLine lines (count a)) (lacksHome a) (a .states)
+      λ n l. rw (any-same (λ i. homeLine n (lineAt lines i)) (λ i. goesHome n (transitionOf a i)) (count a)
       λ i b. rw (k .line i b .source, k .line i b .destination)))
 
-  activity-same : firstBelow (activityRow (d .rows)) (d .states) ≡ firstBelow (wrongActivity a) (a .states)
+  activity-same : firstBelow (activityRow rows) (d .states) ≡ firstBelow (wrongActivity a) (a .states)
   activity-same =
-      rw (k .states) (first-same (activityRow (d .rows)) (wrongActivity a) (a .states) λ n l. rw (k .row n l, bit-first (rowOf a n)))
+      rw (k .states) (first-same (activityRow rows) (wrongActivity a) (a .states) λ n l. rw (k .row n l, bit-first (rowOf a n)))
 
-  pub judge-same : judgeLines d ≡ judge a
+  pub judge-same : judgeLines d rows lines ≡ judge a
   unfolding judgeLines judgeForms judge
   judge-same =
       rw (

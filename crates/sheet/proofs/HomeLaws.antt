@@ -12,7 +12,8 @@ use Rattle.answer.specs.declared.Found.the-variants.{Nothing}
 use Rattle.answer.proofs.Laws.{first-same}
 use Rattle.bits.specs.Word.{getBit, putBit}
 use Rattle.reader.specs.declared.Line.{Line}
-use Rattle.sheet.specs.Lines.{lineOf, homeLine, hasHome, Homes, lacksHomeLine, lacksBit}
+use Rattle.reader.specs.Packing.{lineAt}
+use Rattle.sheet.specs.Lines.{homeLine, hasHome, Homes, lacksHomeLine, lacksBit}
 
 and-left : (a b : Bool) → a && b ≡ true → a ≡ true
 and-left true b e = refl
@@ -46,27 +47,27 @@ no-home true source s l e =
     rw (ne-eqb source s (λ q. omega arith))
 no-home false source s l e = and-false (eqb source s)
 
-module _ (lines : List Line) where
+module _ (lines : List ℕ) where
   pub homes-start : Homes lines 0 0
   unfolding hasHome anyBelow
   homes-start s l = bit-zero s
 
-  more : (i s : ℕ) → hasHome lines (i + 1) s ≡ hasHome lines i s || homeLine s (lineOf lines i)
+  more : (i s : ℕ) → hasHome lines (i + 1) s ≡ hasHome lines i s || homeLine s (lineAt lines i)
   unfolding hasHome anyBelow
   more i s = rw add-one
 
   -- a transition to 0 sets the bit of its source
-  pub homes-set : (i w : ℕ) → Homes lines i w → eqb (lineOf lines i .destination) 0 && ltb (lineOf lines i .source) 32 ≡ true
-      → Homes lines (i + 1) (putBit w (lineOf lines i .source) true)
+  pub homes-set : (i w : ℕ) → Homes lines i w → eqb (lineAt lines i .destination) 0 && ltb (lineAt lines i .source) 32 ≡ true
+      → Homes lines (i + 1) (putBit w (lineAt lines i .source) true)
   homes-set i w h e s l =
-      let t = lineOf lines i in
+      let t = lineAt lines i in
       rw (bit-set w (t .source) s, h s l, more i s, and-left (eqb (t .destination) 0) (ltb (t .source) 32) e, and-true (eqb (t .source) s))
 
   -- another one changes nothing; a source of 32 or more is no state
-  pub homes-keep : (i w : ℕ) → Homes lines i w → eqb (lineOf lines i .destination) 0 && ltb (lineOf lines i .source) 32 ≡ false
+  pub homes-keep : (i w : ℕ) → Homes lines i w → eqb (lineAt lines i .destination) 0 && ltb (lineAt lines i .source) 32 ≡ false
       → Homes lines (i + 1) w
   homes-keep i w h e s l =
-      let t = lineOf lines i in
+      let t = lineAt lines i in
       rw (more i s, no-home (eqb (t .destination) 0) (t .source) s l e, h s l) (sym (or-false (hasHome lines i s)))
 
   -- so the search goes by the word

@@ -13,12 +13,8 @@ use Rattle.answer.specs.Lowest.{anyBelow, firstBelow, refuseAt}
 use Rattle.bits.specs.Word.{getBit}
 use Rattle.reader.specs.declared.Line.{Line}
 use Rattle.reader.specs.declared.Decoded.{Decoded}
-use Rattle.reader.specs.Decoding.{noLine}
+use Rattle.reader.specs.Packing.{lineAt}
 use Rattle.sheet.specs.Judging.{differs}
-
--- line i
-abbrev pub lineOf : List Line → ℕ → Line
-lineOf lines i = getD lines i noLine
 
 abbrev pub loopLine : Line → Bool
 loopLine t = eqb (t .source) (t .destination)
@@ -30,16 +26,16 @@ abbrev pub rankLines : Line → Line → Bool
 rankLines t u = eqb (t .source) (u .source) && eqb (t .priority) (u .priority)
 
 -- line `later` clashes with some line before `earlier`
-abbrev pub clashBelow : (Line → Line → Bool) → List Line → ℕ → ℕ → Bool
-clashBelow same lines later earlier = anyBelow (λ i. same (lineOf lines i) (lineOf lines later)) earlier
+abbrev pub clashBelow : (Line → Line → Bool) → List ℕ → ℕ → ℕ → Bool
+clashBelow same lines later earlier = anyBelow (λ i. same (lineAt lines i) (lineAt lines later)) earlier
 
 -- the lowest line that clashes with an earlier one
-unfoldable pub firstClash : (Line → Line → Bool) → List Line → ℕ → Found
+unfoldable pub firstClash : (Line → Line → Bool) → List ℕ → ℕ → Found
 firstClash same lines m = firstBelow (λ later. clashBelow same lines later later) m
 
 -- two of the m keys are equal where their lines clash
-abbrev pub Keys : (Line → Line → Bool) → List Line → ℕ → List ℕ → Type 0
-Keys same lines m keys = (i j : ℕ) → i < m → j < m → eqb (getD keys i 0) (getD keys j 0) ≡ same (lineOf lines i) (lineOf lines j)
+abbrev pub Keys : (Line → Line → Bool) → List ℕ → ℕ → List ℕ → Type 0
+Keys same lines m keys = (i j : ℕ) → i < m → j < m → eqb (getD keys i 0) (getD keys j 0) ≡ same (lineAt lines i) (lineAt lines j)
 
 -- the key of `later` is that of some line before `earlier`
 abbrev pub alikeBelow : List ℕ → ℕ → ℕ → Bool
@@ -53,14 +49,14 @@ abbrev pub homeLine : ℕ → Line → Bool
 homeLine s t = eqb (t .source) s && eqb (t .destination) 0
 
 -- one of the m lines goes from state s to 0
-unfoldable pub hasHome : List Line → ℕ → ℕ → Bool
-hasHome lines m s = anyBelow (λ i. homeLine s (lineOf lines i)) m
+unfoldable pub hasHome : List ℕ → ℕ → ℕ → Bool
+hasHome lines m s = anyBelow (λ i. homeLine s (lineAt lines i)) m
 
 -- bit s of the word says so
-abbrev pub Homes : List Line → ℕ → ℕ → Type 0
+abbrev pub Homes : List ℕ → ℕ → ℕ → Type 0
 Homes lines m word = (s : ℕ) → s < 32 → getBit word s ≡ hasHome lines m s
 
-abbrev pub lacksHomeLine : List Line → ℕ → ℕ → Bool
+abbrev pub lacksHomeLine : List ℕ → ℕ → ℕ → Bool
 lacksHomeLine lines m s = ltb 0 s && not (hasHome lines m s)
 
 -- the same by that word
@@ -77,17 +73,17 @@ abbrev pub activityRow : List ℕ → ℕ → Bool
 activityRow rows s = differs (getBit (getD rows s 0) 0) (eqb s 0)
 
 -- the numbers 10 to 13
-unfoldable pub judgeForms : List Line → ℕ → List ℕ → ℕ → Checked
+unfoldable pub judgeForms : List ℕ → ℕ → List ℕ → ℕ → Checked
 judgeForms lines m rows n =
     let thirteen = refuseAt Activity (firstBelow (activityRow rows) n) Accepted in
-    let twelve = refuseAt Gate (firstBelow (λ i. gateLine (lineOf lines i)) m) thirteen in
-    let eleven = refuseAt HomeForm (firstBelow (λ i. homeFormLine (lineOf lines i)) m) twelve in
+    let twelve = refuseAt Gate (firstBelow (λ i. gateLine (lineAt lines i)) m) thirteen in
+    let eleven = refuseAt HomeForm (firstBelow (λ i. homeFormLine (lineAt lines i)) m) twelve in
     refuseAt NoHome (firstBelow (lacksHomeLine lines m) n) eleven
 
 -- the numbers 7 to 13
-unfoldable pub judgeLines : Decoded → Checked
-judgeLines d =
-    let ten = judgeForms (d .lines) (d .transitions) (d .rows) (d .states) in
-    let nine = refuseAt Rank (firstClash rankLines (d .lines) (d .transitions)) ten in
-    let eight = refuseAt Pair (firstClash pairLines (d .lines) (d .transitions)) nine in
-    refuseAt Loop (firstBelow (λ i. loopLine (lineOf (d .lines) i)) (d .transitions)) eight
+unfoldable pub judgeLines : Decoded → List ℕ → List ℕ → Checked
+judgeLines d rows lines =
+    let ten = judgeForms lines (d .transitions) rows (d .states) in
+    let nine = refuseAt Rank (firstClash rankLines lines (d .transitions)) ten in
+    let eight = refuseAt Pair (firstClash pairLines lines (d .transitions)) nine in
+    refuseAt Loop (firstBelow (λ i. loopLine (lineAt lines i)) (d .transitions)) eight

@@ -4,15 +4,16 @@ use answer::Found;
 use answer::Refusal;
 use reader::Decoded;
 use reader::How;
-use reader::Line;
 ghost use mathlib.Core.Path.{_≡_};
 ghost use mathlib.Core.List.{List};
 ghost use Prim.Native.Nat.{ℕ, _≤_};
+ghost use lib.ListN.{length};
 ghost use Rattle.answer.specs.Lowest.{firstBelow};
 ghost use Rattle.reader.specs.Sheet.{Sheet};
+ghost use Rattle.reader.specs.Packing.{lineAt};
 ghost use Rattle.reader.specs.Decoding.{Copy};
 ghost use Rattle.sheet.specs.Judging.{judge, checkSheet};
-ghost use Rattle.sheet.specs.Lines.{lineOf, loopLine, pairLines, rankLines, Keys, firstAlike, Homes, lacksHomeLine, homeFormLine, gateLine, activityRow, judgeForms};
+ghost use Rattle.sheet.specs.Lines.{loopLine, pairLines, rankLines, Keys, firstAlike, Homes, lacksHomeLine, homeFormLine, gateLine, activityRow, judgeForms};
 ghost use Rattle.sheet.specs.Opening.{Opens};
 
 // What a sheet's bytes are found to be: the verdict, and the decoded copy where it accepts.
@@ -24,7 +25,7 @@ pub struct Opened {
 // 7 LOOP: the first transition back to its own source.
 fn first_loop(lines: &[u64; 128], m: usize) -> Found
     requires { ⌜ m ≤ 128 ⌝ }
-    ensures { λ r. ⌜ r ≡ firstBelow (λ i. loopLine (lineOf lines i)) m ⌝ }
+    ensures { λ r. ⌜ r ≡ firstBelow (λ i. loopLine (lineAt (now (lines .entry)) i)) m ⌝ }
 {
     let mut i: usize = 0;
     while i < m {
@@ -40,7 +41,7 @@ fn first_loop(lines: &[u64; 128], m: usize) -> Found
 // A transition's key for PAIR: two of them are equal where both its states are.
 fn pair_keys(lines: &[u64; 128], m: usize) -> [u16; 128]
     requires { ⌜ m ≤ 128 ⌝ }
-    ensures { λ r. ⌜ Keys pairLines lines m r ⌝ }
+    ensures { λ r. ⌜ Keys pairLines (now (lines .entry)) m r ⌝ }
 {
     let mut keys = [0u16; 128];
     let mut i: usize = 0;
@@ -55,7 +56,7 @@ fn pair_keys(lines: &[u64; 128], m: usize) -> [u16; 128]
 // A transition's key for RANK: two of them are equal where source and priority are.
 fn rank_keys(lines: &[u64; 128], m: usize) -> [u16; 128]
     requires { ⌜ m ≤ 128 ⌝ }
-    ensures { λ r. ⌜ Keys rankLines lines m r ⌝ }
+    ensures { λ r. ⌜ Keys rankLines (now (lines .entry)) m r ⌝ }
 {
     let mut keys = [0u16; 128];
     let mut i: usize = 0;
@@ -93,7 +94,7 @@ fn first_clash(keys: &[u16; 128], m: usize) -> Found
 // The word whose bit s says that state s has a transition to 0; a sheet names no state above 31.
 fn homes(lines: &[u64; 128], m: usize) -> u32
     requires { ⌜ m ≤ 128 ⌝ }
-    ensures { λ r. ⌜ Homes lines m r ⌝ }
+    ensures { λ r. ⌜ Homes (now (lines .entry)) m r ⌝ }
 {
     let mut word: u32 = 0;
     let mut i: usize = 0;
@@ -110,7 +111,7 @@ fn homes(lines: &[u64; 128], m: usize) -> u32
 // 10 NO-HOME: the first state other than 0 without a transition to 0.
 fn first_no_home(lines: &[u64; 128], m: usize, n: usize) -> Found
     requires { ⌜ (m ≤ 128) × (n ≤ 32) ⌝ }
-    ensures { λ r. ⌜ r ≡ firstBelow (lacksHomeLine lines m) n ⌝ }
+    ensures { λ r. ⌜ r ≡ firstBelow (lacksHomeLine (now (lines .entry)) m) n ⌝ }
 {
     let word = homes(lines, m);
     let mut s: usize = 1;
@@ -126,7 +127,7 @@ fn first_no_home(lines: &[u64; 128], m: usize, n: usize) -> Found
 // 11 HOME-FORM: the first transition to 0 that is not priority 0, wait 0 and NOT input 0.
 fn first_home_form(lines: &[u64; 128], m: usize) -> Found
     requires { ⌜ m ≤ 128 ⌝ }
-    ensures { λ r. ⌜ r ≡ firstBelow (λ i. homeFormLine (lineOf lines i)) m ⌝ }
+    ensures { λ r. ⌜ r ≡ firstBelow (λ i. homeFormLine (lineAt (now (lines .entry)) i)) m ⌝ }
 {
     let mut i: usize = 0;
     while i < m {
@@ -142,7 +143,7 @@ fn first_home_form(lines: &[u64; 128], m: usize) -> Found
 // 12 GATE: the first transition from 0 whose condition has neither form; no value of the condition is asked.
 fn first_gate(lines: &[u64; 128], m: usize) -> Found
     requires { ⌜ m ≤ 128 ⌝ }
-    ensures { λ r. ⌜ r ≡ firstBelow (λ i. gateLine (lineOf lines i)) m ⌝ }
+    ensures { λ r. ⌜ r ≡ firstBelow (λ i. gateLine (lineAt (now (lines .entry)) i)) m ⌝ }
 {
     let mut i: usize = 0;
     while i < m {
@@ -158,11 +159,11 @@ fn first_gate(lines: &[u64; 128], m: usize) -> Found
 // 13 ACTIVITY: the first state whose output 0 is not whether it is state 0.
 fn first_activity(rows: &[u16; 32], n: usize) -> Found
     requires { ⌜ n ≤ 32 ⌝ }
-    ensures { λ r. ⌜ r ≡ firstBelow (activityRow rows) n ⌝ }
+    ensures { λ r. ⌜ r ≡ firstBelow (activityRow (now (rows .entry))) n ⌝ }
 {
     let mut s: usize = 0;
     while s < n {
-        let active = bits::get_bit(rows[s] as u32, 0);
+        let active = rows[s] % 2 == 1;
         if active != (s == 0) {
             return Found::At(s);
         }
@@ -174,7 +175,7 @@ fn first_activity(rows: &[u16; 32], n: usize) -> Found
 // The numbers 10 to 13, lowest first.
 fn judge_forms(lines: &[u64; 128], m: usize, rows: &[u16; 32], n: usize) -> Checked
     requires { ⌜ (m ≤ 128) × (n ≤ 32) ⌝ }
-    ensures { λ r. ⌜ r ≡ judgeForms lines m rows n ⌝ }
+    ensures { λ r. ⌜ r ≡ judgeForms (now (lines .entry)) m (now (rows .entry)) n ⌝ }
 {
     let no_home = first_no_home(lines, m, n);
     if let Found::At(s) = no_home {
@@ -197,7 +198,7 @@ fn judge_forms(lines: &[u64; 128], m: usize, rows: &[u16; 32], n: usize) -> Chec
 // The numbers 7 to 13 of a sheet read to its end, the lowest first.
 fn judge_decoded(d: Decoded, rows: &[u16; 32], lines: &[u64; 128]) -> Checked
     requires { ⌜ (d .transitions ≤ 128) × (d .states ≤ 32) ⌝ }
-    ensures { λ r. ⌜ ((s : List ℕ) (a : Sheet) → Copy s d a → r ≡ judge a) ⌝ }
+    ensures { λ r. ⌜ ((s : List ℕ) (a : Sheet) → Copy s d (now (rows .entry)) (now (lines .entry)) a → r ≡ judge a) ⌝ }
 {
     let m = d.transitions;
     let to_itself = first_loop(lines, m);
@@ -219,7 +220,8 @@ fn judge_decoded(d: Decoded, rows: &[u16; 32], lines: &[u64; 128]) -> Checked
 
 // A sheet that is checked and decoded once, for the crates that go on with it.
 pub fn open_sheet(sheet: &[u8], rows: &mut [u16; 32], lines: &mut [u64; 128]) -> Opened
-    ensures { λ r. ⌜ Opens (now (sheet .entry)) r ⌝ }
+    requires { ⌜ (length (now rows) ≡ 32) × (length (now lines) ≡ 128) ⌝ }
+    ensures { λ r. ⌜ Opens (now (sheet .entry)) r (now (rows .exit)) (now (lines .exit)) ⌝ }
 {
     let d = reader::read_sheet(sheet, rows, lines);
     let how = d.how;

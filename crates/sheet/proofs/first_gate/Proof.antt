@@ -1,35 +1,39 @@
 -- `sheet::first_gate` meets its contract. Assumes nothing.
-use mathlib.Core.Path.{_≡_, refl, sym}
+use borrow.Author.Needs.{needs}
+use mathlib.Core.Path.{_≡_, refl, sym, ap, _∙_}
 use Prim.Native.Nat.{_-_}
 use native.Mathlib.Omega.{arith}
 use Rattle.answer.specs.Lowest.{firstBelow}
 use Rattle.answer.specs.declared.Found.the-variants.{Nothing}
 use Rattle.answer.proofs.Laws.{first-more, first-hit}
-use Rattle.sheet.specs.Lines.{lineOf, gateLine}
+use Rattle.reader.specs.Packing.{lineAt}
+use Rattle.sheet.specs.Lines.{gateLine}
 use Rattle.sheet.proofs.SearchLaws.{search-end}
 use Rattle.sheet.proofs.first_gate.Statement.{statement}
 use Rattle.sheet.proofs.first_gate.Tie as tie
 
 abbrev Inv-loop : tie.InvT-loop
-Inv-loop m lines i₀ i = firstBelow (λ j. gateLine (lineOf lines j)) i ≡ Nothing
+Inv-loop lines m i₀ i = firstBelow (λ j. gateLine (lineAt lines j)) i ≡ Nothing
 
 abbrev μ-loop : tie.MeasureT-loop
-μ-loop m lines i₀ i = m - i
+μ-loop lines m i₀ i = m - i
 
 loop-holds : tie.Need-loop-holds Inv-loop μ-loop
 unfolding firstBelow
 loop-holds c = refl
 
-mul-t : tie.Need-mul-t Inv-loop μ-loop
-mul-t c = omega arith
+mul-unpacked : tie.Need-mul-unpacked Inv-loop μ-loop
+mul-unpacked c = omega arith
 
-array-copy-out-t : tie.Need-array-copy-out-t Inv-loop μ-loop
-array-copy-out-t c = omega arith
+element-copy-out-unpacked : tie.Need-element-copy-out-unpacked Inv-loop μ-loop
+element-copy-out-unpacked c = omega arith
+
+unpacked-requires : tie.Need-unpacked-requires Inv-loop μ-loop
+unpacked-requires c κs = search needs
 
 returns : tie.Need-returns Inv-loop μ-loop
 returns c =
-    let at = c .before .before .before .before .before .before in
-    sym (first-hit (λ j. gateLine (lineOf (at .before .args .t1) j)) _ _ (omega arith) (at .loop .inv) (c .if1 .taken))
+    sym (first-hit (λ j. gateLine (lineAt (c .before .before .before .before .before .before .before .before .args .lines .now) j)) _ _ (omega arith) (c .before .before .before .before .before .before .before .loop .inv) (ap gateLine (sym (c .before .before .before .before .unpacked .ensures)) ∙ c .if1 .taken))
 
 add-i : tie.Need-add-i Inv-loop μ-loop
 add-i c = omega arith
@@ -39,8 +43,7 @@ loop-less c = omega arith
 
 loop-again : tie.Need-loop-again Inv-loop μ-loop
 loop-again c =
-    let at = c .before .before .before .before .before .before in
-    first-more (λ j. gateLine (lineOf (at .before .args .t1) j)) _ (at .loop .inv) (c .if1 .left)
+    first-more (λ j. gateLine (lineAt (c .before .before .before .before .before .before .before .before .args .lines .now) j)) _ (c .before .before .before .before .before .before .before .loop .inv) (ap gateLine (sym (c .before .before .before .before .unpacked .ensures)) ∙ c .if1 .left)
 
 returns-2 : tie.Need-returns-2 Inv-loop μ-loop
 returns-2 c = sym (search-end _ (c .before .before .args .m) (c .before .loop .i) (omega arith) (c .before .loop .inv))
@@ -52,8 +55,9 @@ first-gate-spec =
     Inv-loop
     μ-loop
     loop-holds
-    mul-t
-    array-copy-out-t
+    mul-unpacked
+    element-copy-out-unpacked
+    unpacked-requires
     returns
     add-i
     loop-less

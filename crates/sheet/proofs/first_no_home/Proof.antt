@@ -13,10 +13,10 @@ use Rattle.sheet.proofs.first_no_home.Statement.{statement}
 use Rattle.sheet.proofs.first_no_home.Tie as tie
 
 abbrev Inv-loop : tie.InvT-loop
-Inv-loop m n word s₀ s = (1 ≤ s) × (firstBelow (lacksBit word) s ≡ Nothing)
+Inv-loop lines m n word s₀ s = (1 ≤ s) × (firstBelow (lacksBit word) s ≡ Nothing)
 
 abbrev μ-loop : tie.MeasureT-loop
-μ-loop m n word s₀ s = n - s
+μ-loop lines m n word s₀ s = n - s
 
 homes-requires : tie.Need-homes-requires Inv-loop μ-loop
 homes-requires c κs = c .pre .0

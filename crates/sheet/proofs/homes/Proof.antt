@@ -1,32 +1,37 @@
 -- `sheet::homes` meets its contract. Assumes nothing.
+use borrow.Author.Needs.{needs}
 use mathlib.Core.Path.{_≡_}
 use mathlib.Core.Logic.{⊎-elim}
 use Prim.Native.Nat.{_-_, _≤_, _<_}
 use native.Mathlib.Omega.{arith}
 use lib.Dec.{eqb}
 use Rattle.reader.specs.declared.Line.{Line}
-use Rattle.sheet.specs.Lines.{lineOf, Homes}
+use Rattle.reader.specs.Packing.{lineAt}
+use Rattle.sheet.specs.Lines.{Homes}
 use Rattle.sheet.proofs.HomeLaws.{source-fits, homes-start, homes-set, homes-keep}
 use Rattle.sheet.proofs.homes.Statement.{statement}
 use Rattle.sheet.proofs.homes.Tie as tie
 
 abbrev Inv-loop : tie.InvT-loop
-Inv-loop m lines word₀ i₀ word i = (i ≤ m) × Homes lines i word
+Inv-loop lines m word₀ i₀ word i = (i ≤ m) × Homes lines i word
 
 abbrev μ-loop : tie.MeasureT-loop
-μ-loop m lines word₀ i₀ word i = m - i
+μ-loop lines m word₀ i₀ word i = m - i
 
 loop-holds : tie.Need-loop-holds Inv-loop μ-loop
-loop-holds c = (omega arith, homes-start (c .args .t1))
+loop-holds c = (omega arith, homes-start (c .args .lines .now))
 
-mul-t : tie.Need-mul-t Inv-loop μ-loop
-mul-t c = omega arith
+mul-unpacked : tie.Need-mul-unpacked Inv-loop μ-loop
+mul-unpacked c = omega arith
 
-array-copy-out-t : tie.Need-array-copy-out-t Inv-loop μ-loop
-array-copy-out-t c = omega arith
+element-copy-out-unpacked : tie.Need-element-copy-out-unpacked Inv-loop μ-loop
+element-copy-out-unpacked c = omega arith
+
+unpacked-requires : tie.Need-unpacked-requires Inv-loop μ-loop
+unpacked-requires c κs = search needs
 
 abbrev line : tie.After-struct-known3 Inv-loop μ-loop → Line
-line c = lineOf (c .before .before .before .before .before .before .before .args .t1) (c .before .before .before .before .before .before .loop .i)
+line c = c .before .before .before .before .unpacked .result
 
 fits : (c : tie.After-struct-known3 Inv-loop μ-loop) → line c .source < 32
 fits c = source-fits (eqb (line c .destination) 0) (line c .source) (c .before .if1 .taken)
@@ -45,11 +50,12 @@ loop-less c = omega arith
 
 loop-again : tie.Need-loop-again Inv-loop μ-loop
 loop-again c =
-    let lines = c .before .before .before .before .before .before .args .t1 in
-    let i = c .before .before .before .before .before .loop .i in
-    let before = c .before .before .before .before .before .loop .inv .1 in (
+    let lines = c .before .before .before .before .before .before .before .args .lines .now in
+    let i = c .before .before .before .before .before .before .loop .i in
+    let t = c .before .before .before .unpacked .ensures in
+    let before = c .before .before .before .before .before .before .loop .inv .1 in (
       omega arith,
-      ⊎-elim (λ w. rw (w .3, w .2 .ensures) (homes-set lines i _ before (w .0 .taken))) (λ w. rw (w .1) (homes-keep lines i _ before (w .0 .left)))
+      ⊎-elim (λ w. rw (w .3, w .2 .ensures, t) (homes-set lines i _ before (rw t at (w .0 .taken)))) (λ w. rw (w .1) (homes-keep lines i _ before (rw t at (w .0 .left))))
           (c .if1 .came),
     )
 
@@ -63,8 +69,9 @@ homes-spec =
     Inv-loop
     μ-loop
     loop-holds
-    mul-t
-    array-copy-out-t
+    mul-unpacked
+    element-copy-out-unpacked
+    unpacked-requires
     cast-set-bit
     set-bit-requires
     add-i

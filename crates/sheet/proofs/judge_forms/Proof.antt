@@ -3,7 +3,8 @@ use borrow.Author.Needs.{needs}
 use mathlib.Core.Path.{_≡_, sym, _∙_}
 use Rattle.answer.specs.Lowest.{firstBelow}
 use Rattle.answer.specs.declared.Found.the-variants.{Nothing}
-use Rattle.sheet.specs.Lines.{lineOf, lacksHomeLine, homeFormLine, gateLine, judgeForms}
+use Rattle.reader.specs.Packing.{lineAt}
+use Rattle.sheet.specs.Lines.{lacksHomeLine, homeFormLine, gateLine, judgeForms}
 use Rattle.sheet.proofs.judge_forms.Statement.{statement}
 use Rattle.sheet.proofs.judge_forms.Tie as tie
 
@@ -21,7 +22,7 @@ returns c =
 enum-told : tie.Need-enum-told
 enum-told c = search needs
 
-homes-there : (c : tie.After-enum-told) → let a = c .before .before .before .args in firstBelow (lacksHomeLine (a .lines) (a .m)) (a .n) ≡ Nothing
+homes-there : (c : tie.After-enum-told) → let a = c .before .before .before .args in firstBelow (lacksHomeLine (a .lines .now) (a .m)) (a .n) ≡ Nothing
 homes-there c = sym (c .before .before .first-no-home .ensures) ∙ c .enum-told .given .1
 
 first-home-form-requires : tie.Need-first-home-form-requires
@@ -41,7 +42,7 @@ returns-2 c =
 enum-told-2 : tie.Need-enum-told-2
 enum-told-2 c = search needs
 
-home-forms-right : (c : tie.After-enum-told2) → let a = c .before .before .before .before .before .before .args in firstBelow (λ i. homeFormLine (lineOf (a .lines) i)) (a .m) ≡ Nothing
+home-forms-right : (c : tie.After-enum-told2) → let a = c .before .before .before .before .before .before .args in firstBelow (λ i. homeFormLine (lineAt (a .lines .now) i)) (a .m) ≡ Nothing
 home-forms-right c = sym (c .before .before .first-home-form .ensures) ∙ c .enum-told2 .given .1
 
 first-gate-requires : tie.Need-first-gate-requires
@@ -62,7 +63,7 @@ returns-3 c =
 enum-told-3 : tie.Need-enum-told-3
 enum-told-3 c = search needs
 
-gates-right : (c : tie.After-enum-told3) → let a = c .before .before .before .before .before .before .before .before .before .args in firstBelow (λ i. gateLine (lineOf (a .lines) i)) (a .m) ≡ Nothing
+gates-right : (c : tie.After-enum-told3) → let a = c .before .before .before .before .before .before .before .before .before .args in firstBelow (λ i. gateLine (lineAt (a .lines .now) i)) (a .m) ≡ Nothing
 gates-right c = sym (c .before .before .first-gate .ensures) ∙ c .enum-told3 .given .1
 
 first-activity-requires : tie.Need-first-activity-requires

@@ -1,6 +1,7 @@
 -- `sheet::pair_keys` meets its contract. Assumes nothing.
+use borrow.Author.Needs.{needs}
 use mathlib.Core.Path.{_≡_, refl, _∙_}
-use Prim.Native.Nat.{_≤_, _-_}
+use Prim.Native.Nat.{_≤_, _<_, _-_}
 use native.Mathlib.Omega.{arith}
 use lib.ListN.{length, length-set}
 use Rattle.sheet.proofs.ClashLaws.{Made, made-more, made-keys}
@@ -8,19 +9,22 @@ use Rattle.sheet.proofs.pair_keys.Statement.{statement}
 use Rattle.sheet.proofs.pair_keys.Tie as tie
 
 abbrev Inv-loop : tie.InvT-loop
-Inv-loop m lines keys₀ i₀ keys i = (length keys ≡ 128) × (i ≤ m) × Made (λ t. t .destination) lines keys i
+Inv-loop lines m keys₀ i₀ keys i = (length keys ≡ 128) × (i ≤ m) × Made (λ t. t .destination) lines keys i
 
 abbrev μ-loop : tie.MeasureT-loop
-μ-loop m lines keys₀ i₀ keys i = m - i
+μ-loop lines m keys₀ i₀ keys i = m - i
 
 loop-holds : tie.Need-loop-holds Inv-loop μ-loop
 loop-holds c = (refl, omega arith, λ j h. absurd (omega arith))
 
-mul-t : tie.Need-mul-t Inv-loop μ-loop
-mul-t c = omega arith
+mul-unpacked : tie.Need-mul-unpacked Inv-loop μ-loop
+mul-unpacked c = omega arith
 
-array-copy-out-t : tie.Need-array-copy-out-t Inv-loop μ-loop
-array-copy-out-t c = omega arith
+element-copy-out-unpacked : tie.Need-element-copy-out-unpacked Inv-loop μ-loop
+element-copy-out-unpacked c = omega arith
+
+unpacked-requires : tie.Need-unpacked-requires Inv-loop μ-loop
+unpacked-requires c κs = search needs
 
 cast-keys : tie.Need-cast-keys Inv-loop μ-loop
 cast-keys c = omega arith
@@ -48,14 +52,15 @@ loop-less c = omega arith
 
 loop-again : tie.Need-loop-again Inv-loop μ-loop
 loop-again c =
-    let at = c .before .before .before .before .loop in (
+    let at = c .before .before .before .before .before .loop in
+    let small : c .before .before .unpacked .result .destination < 256 = omega arith in (
       length-set (at .keys) (at .i) _ ∙ at .inv .0,
       omega arith,
-      made-more (λ t. t .destination) (c .before .before .before .before .before .args .t1) (at .keys) (at .i) (omega arith) (omega arith) (at .inv .2),
+      rw (c .before .before .unpacked .ensures) (made-more (λ t. t .destination) (c .before .before .before .before .before .before .args .lines .now) (at .keys) (at .i) (omega arith) (rw (c .before .before .unpacked .ensures) at small) (at .inv .2)),
     )
 
 returns : tie.Need-returns Inv-loop μ-loop
-returns c = made-keys (λ t. t .destination) (c .before .before .args .t1) (c .before .loop .keys) _ (c .before .loop .i) (omega arith) (c .before .loop .inv .2)
+returns c = made-keys (λ t. t .destination) (c .before .before .args .lines .now) (c .before .loop .keys) _ (c .before .loop .i) (omega arith) (c .before .loop .inv .2)
 
 pub pair-keys-spec : {M : Type 1} → statement M
 pair-keys-spec =
@@ -64,8 +69,9 @@ pair-keys-spec =
     Inv-loop
     μ-loop
     loop-holds
-    mul-t
-    array-copy-out-t
+    mul-unpacked
+    element-copy-out-unpacked
+    unpacked-requires
     cast-keys
     mul-keys
     cast-keys-2
