@@ -11,7 +11,8 @@ use Rattle.answer.specs.declared.Refusal.the-variants.{NoState}
 use Rattle.answer.specs.declared.Checked.the-variants.{Accepted, Refused}
 use Rattle.bits.specs.Word.{wordOf}
 use Rattle.reader.specs.Sheet.{Transition, Sheet, count, rowOf, transitionOf, noTransition}
-use Rattle.reader.specs.Decoding.{Holds, noLine}
+use Rattle.reader.specs.Packing.{lineAt}
+use Rattle.reader.specs.Decoding.{Holds}
 use Rattle.sheet.specs.Judging.{checkSheet}
 use Rattle.sheet.specs.Opening.{Good, Opens}
 use Rattle.sheet.specs.declared.Opened.{Opened}
@@ -35,7 +36,7 @@ pub cold-refused : (s : List ℕ) (why : Refusal) → checkSheet s ≡ Refused w
 unfolding coldScan
 cold-refused s why e = with-refused s why (refused zeros) _ e
 
-module _ (s : List ℕ) (o : Opened) (g : Good s o) where
+module _ (s : List ℕ) (o : Opened) (rows lines : List ℕ) (g : Good s o rows lines) where
   -- an accepted sheet, and a state that it has or has not
   pub scan-accepted : (q : State) (word elapsed : ℕ) → q .state < g .sheet .states → scanSheet s q word elapsed ≡ accepted (scanOf (g .sheet) q word elapsed)
   unfolding scanSheet
@@ -80,16 +81,16 @@ module _ (s : List ℕ) (o : Opened) (g : Good s o) where
 
   -- the record that the code makes is the scan's
   pub moved-is : (q : State) (word clock : ℕ) (p : Pick) → Picks p (best (q .state) word clock (g .sheet .transitions))
-      → movedOf (o .decoded .rows) q clock p ≡ after (g .sheet) q clock (best (q .state) word clock (g .sheet .transitions))
-  moved-is q word clock p h = moved-by _ (o .decoded .rows) q clock p _ h (chosen (q .state) word clock) (g .copy .row)
+      → movedOf rows q clock p ≡ after (g .sheet) q clock (best (q .state) word clock (g .sheet .transitions))
+  moved-is q word clock p h = moved-by _ rows q clock p _ h (chosen (q .state) word clock) (g .copy .row)
 
   -- each line of the copy holds its transition
-  pub lines-hold : (i : ℕ) → i < o .decoded .transitions → Holds s (o .decoded .inputs) (getD (o .decoded .lines) i noLine) (transitionOf (g .sheet) i)
+  pub lines-hold : (i : ℕ) → i < o .decoded .transitions → Holds s (o .decoded .inputs) (lineAt lines i) (transitionOf (g .sheet) i)
   lines-hold i l =
-      subst (λ (k : ℕ). Holds s k (getD (o .decoded .lines) i noLine) (transitionOf (g .sheet) i)) (sym (g .copy .inputs))
+      subst (λ (k : ℕ). Holds s k (lineAt lines i) (transitionOf (g .sheet) i)) (sym (g .copy .inputs))
       (g .copy .line i (omega (arith, g .copy .transitions)))
 
   -- the record that the code starts with is the cold one
-  pub cold-is : coldScan s ≡ accepted (record { state = 0; outputs = getD (o .decoded .rows) 0 0; clock = 0 })
+  pub cold-is : coldScan s ≡ accepted (record { state = 0; outputs = getD rows 0 0; clock = 0 })
   unfolding coldOf outputsOf
   cold-is = cold-accepted ∙ rw (g .copy .row 0 (omega (arith, fits .states .0))) refl

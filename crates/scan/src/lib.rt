@@ -10,7 +10,8 @@ ghost use mathlib.Core.List.{List};
 ghost use Prim.Native.Nat.{ℕ, _≤_, _<_};
 ghost use lib.ListN.{length, getD};
 ghost use Rattle.reader.specs.Sheet.{Transition, noTransition};
-ghost use Rattle.reader.specs.Decoding.{Holds, noLine};
+ghost use Rattle.reader.specs.Packing.{lineAt};
+ghost use Rattle.reader.specs.Decoding.{Holds};
 ghost use Rattle.sheet.specs.Opening.{Opens};
 ghost use Rattle.scan.specs.Scan.{can, best, scanSheet, coldScan};
 ghost use Rattle.scan.specs.Picking.{Picks, tookOf, Inside, movedOf};
@@ -66,8 +67,8 @@ fn took(p: Pick, line: Line) -> Pick
 
 // Of the m transitions, the one that fires.
 fn choose(s: &[u8], lines: &[u64; 128], m: usize, k: u32, active: u8, word: u32, clock: u32) -> Pick
-    requires { ⌜ (m ≤ 128) × ((i : ℕ) → i < m → getD lines i noLine .cond < 900000) ⌝ }
-    ensures { λ r. ⌜ ((ts : List Transition) → length ts ≡ m → ((i : ℕ) → i < m → Holds (now (s .entry)) k (getD lines i noLine) (getD ts i noTransition)) → Picks r (best active word clock ts)) ⌝ }
+    requires { ⌜ (m ≤ 128) × ((i : ℕ) → i < m → lineAt (now lines) i .cond < 900000) ⌝ }
+    ensures { λ r. ⌜ ((ts : List Transition) → length ts ≡ m → ((i : ℕ) → i < m → Holds (now (s .entry)) k (lineAt (now (lines .entry)) i) (getD ts i noTransition)) → Picks r (best active word clock ts)) ⌝ }
 {
     let mut best = Pick::Nothing;
     let mut i: usize = 0;
@@ -84,7 +85,7 @@ fn choose(s: &[u8], lines: &[u64; 128], m: usize, k: u32, active: u8, word: u32,
 // The record after a scan that brought the clock forward and chose p.
 fn moved(rows: &[u16; 32], record: State, clock: u32, p: Pick) -> State
     requires { ⌜ Inside p ⌝ }
-    ensures { λ r. ⌜ r ≡ movedOf rows «record» clock p ⌝ }
+    ensures { λ r. ⌜ r ≡ movedOf (now (rows .entry)) «record» clock p ⌝ }
 {
     match p {
         Pick::Nothing => State {
@@ -105,7 +106,7 @@ fn moved(rows: &[u16; 32], record: State, clock: u32, p: Pick) -> State
 
 // A scan on a sheet that was opened.
 fn scan_opened(sheet: &[u8], o: Opened, rows: &[u16; 32], lines: &[u64; 128], record: State, inputs: u16, elapsed: u32) -> Scanned
-    requires { ⌜ Opens (now sheet) o ⌝ }
+    requires { ⌜ Opens (now sheet) o (now rows) (now lines) ⌝ }
     ensures { λ r. ⌜ r ≡ scanSheet (now (sheet .entry)) «record» inputs elapsed ⌝ }
 {
     let verdict = o.verdict;

@@ -9,7 +9,9 @@ use native.Mathlib.Numerals.{add-one}
 use lib.ListN.{length, getD, drop}
 use lib.Seq.{drop-cons}
 use Rattle.reader.specs.Sheet.{Transition, noTransition}
-use Rattle.reader.specs.Decoding.{Holds, noLine}
+use Rattle.reader.specs.Packing.{lineAt}
+use Rattle.reader.specs.Decoding.{Holds}
+use Rattle.reader.specs.declared.Line.{Line}
 use Rattle.scan.specs.Scan.{Choice, none, some, can, best}
 use Rattle.scan.specs.Picking.{Picks, tookOf}
 use Rattle.scan.proofs.ChoiceLaws.{merge}
@@ -22,23 +24,26 @@ use Rattle.scan.proofs.can_fire.Reads as can-fire-reads
 use Rattle.scan.proofs.took.Reads as took-reads
 
 abbrev Inv-loop : tie.InvT-loop
-Inv-loop s m k active word clock lines best₀ i₀ best i =
-    (i ≤ m) × ((ts : List Transition) → length ts ≡ m → ((j : ℕ) → j < m → Holds s k (getD lines j noLine) (getD ts j noTransition)) → Passed active word clock ts i best)
+Inv-loop s lines m k active word clock best₀ i₀ best i =
+    (i ≤ m) × ((ts : List Transition) → length ts ≡ m → ((j : ℕ) → j < m → Holds s k (lineAt lines j) (getD ts j noTransition)) → Passed active word clock ts i best)
 
 abbrev μ-loop : tie.MeasureT-loop
-μ-loop s m k active word clock lines best₀ i₀ best i = m - i
+μ-loop s lines m k active word clock best₀ i₀ best i = m - i
 
 loop-holds : tie.Need-loop-holds Inv-loop μ-loop
 loop-holds c = (omega arith, λ ts e h. passed-start _ _ _ ts)
 
-mul-line : tie.Need-mul-line Inv-loop μ-loop
-mul-line c = omega arith
+mul-unpacked : tie.Need-mul-unpacked Inv-loop μ-loop
+mul-unpacked c = omega arith
 
-array-copy-out-line : tie.Need-array-copy-out-line Inv-loop μ-loop
-array-copy-out-line c = omega arith
+element-copy-out-unpacked : tie.Need-element-copy-out-unpacked Inv-loop μ-loop
+element-copy-out-unpacked c = omega arith
+
+unpacked-requires : tie.Need-unpacked-requires Inv-loop μ-loop
+unpacked-requires c κs = search needs
 
 can-fire-requires : tie.Need-can-fire-requires Inv-loop μ-loop
-can-fire-requires c κs = c .before .before .before .before .pre .1 (c .before .before .loop .i) (omega arith)
+can-fire-requires c κs = rw (c .unpacked .ensures) (c .before .before .before .before .before .pre .1 (c .before .before .before .loop .i) (omega arith))
 
 took-requires : tie.Need-took-requires Inv-loop μ-loop
 took-requires c κs = search needs
@@ -51,15 +56,16 @@ loop-less c = omega arith
 
 loop-again : tie.Need-loop-again Inv-loop μ-loop
 loop-again c =
-    let a = c .before .before .before .before .before .before .args in
-    let l = c .before .before .before .before .loop in (
+    let a = c .before .before .before .before .before .before .before .args in
+    let l = c .before .before .before .before .before .loop in
+    let line = c .before .before .unpacked .result in (
       omega arith,
       λ ts e h.
-          let here = h (l .i) (omega arith) in
+          let here = subst (λ (x : Line). Holds (a .s .now) (a .k) x (getD ts (l .i) noTransition)) (sym (c .before .before .unpacked .ensures)) (h (l .i) (omega arith)) in
           let before = l .inv .1 ts e h in
           let can = c .before .can-fire .ensures (getD ts (l .i) noTransition) here in
           ⊎-elim
-          (λ w. subst (Passed (a .active) (a .word) (a .clock) ts (l .i + 1)) (sym (w .2 ∙ w .1 .ensures)) (passed-fires (a .active) (a .word) (a .clock) ts (l .i) (l .best) (omega arith) before (getD (a .t2) (l .i) noLine) (here .priority) (here .destination) (sym can ∙ w .0 .taken)))
+          (λ w. subst (Passed (a .active) (a .word) (a .clock) ts (l .i + 1)) (sym (w .2 ∙ w .1 .ensures)) (passed-fires (a .active) (a .word) (a .clock) ts (l .i) (l .best) (omega arith) before line (here .priority) (here .destination) (sym can ∙ w .0 .taken)))
           (λ w. subst (Passed (a .active) (a .word) (a .clock) ts (l .i + 1)) (sym (w .1)) (passed-stays (a .active) (a .word) (a .clock) ts (l .i) (l .best) (omega arith) before (sym can ∙ w .0 .left)))
           (c .if1 .came),
     )
@@ -76,8 +82,9 @@ choose-spec =
     Inv-loop
     μ-loop
     loop-holds
-    mul-line
-    array-copy-out-line
+    mul-unpacked
+    element-copy-out-unpacked
+    unpacked-requires
     can-fire-requires
     took-requires
     add-i

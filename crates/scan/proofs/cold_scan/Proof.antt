@@ -14,17 +14,17 @@ enum-known-verdict c = search needs
 enum-told : tie.Need-enum-told
 enum-told c = search needs
 
-element-copy-out-t12 : tie.Need-element-copy-out-t12
-element-copy-out-t12 c = search needs
+array-read-t15 : tie.Need-array-read-t15
+array-read-t15 c = search needs
 
 returns : tie.Need-returns
 returns c =
     let v = c .before .verdict .given in
-    sym (cold-refused (c .before .before .before .before .before .args .sheet .now) (v .0 .0) (sym (c .before .before .before .open-sheet .ensures .verdict) ∙ v .1))
+    sym (cold-refused (c .before .before .before .before .before .before .before .args .sheet .now) (v .0 .0) (sym (c .before .before .before .open-sheet .ensures .verdict) ∙ v .1))
 
 returns-2 : tie.Need-returns-2
 returns-2 c =
-    sym (cold-is (c .before .before .before .before .before .before .args .sheet .now) (c .before .before .before .before .open-sheet .result) (c .before .before .before .before .open-sheet .ensures .good (c .before .before .enum-told .given .1)))
+    sym (cold-is (c .before .before .before .before .before .before .args .sheet .now) (c .before .before .open-sheet .result) _ _ (c .before .before .open-sheet .ensures .good (c .enum-told .given .1)))
 
 pub cold-scan-spec : {M : Type 1} → statement M
 cold-scan-spec =
@@ -33,6 +33,6 @@ cold-scan-spec =
     open-sheet-requires
     enum-known-verdict
     enum-told
-    element-copy-out-t12
+    array-read-t15
     returns
     returns-2)

@@ -18,8 +18,8 @@ cast-outputs c = search needs
 mul-outputs : tie.Need-mul-outputs
 mul-outputs c = search needs
 
-array-read-outputs : tie.Need-array-read-outputs
-array-read-outputs c =
+element-copy-out-outputs : tie.Need-element-copy-out-outputs
+element-copy-out-outputs c =
     let l : c .before .p .given .0 .1 .0 < 32 = rw (c .before .p .given .1) at (c .before .before .before .pre) in
     omega arith
 
@@ -27,9 +27,9 @@ returns : tie.Need-returns
 returns c = rw (c .enum-told .given .1)
 
 returns-2 : tie.Need-returns-2
-returns-2 c = rw (c .before .p .given .1)
+returns-2 c = rw (c .before .before .p .given .1)
 
 pub moved-spec : {M : Type 1} → statement M
 moved-spec =
     tie.close
-    (tie.spec enum-told enum-known-p cast-outputs mul-outputs array-read-outputs returns returns-2)
+    (tie.spec enum-told enum-known-p cast-outputs mul-outputs element-copy-out-outputs returns returns-2)

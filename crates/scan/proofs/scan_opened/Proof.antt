@@ -14,14 +14,15 @@ use Rattle.scan.proofs.scan_opened.Statement.{statement}
 use Rattle.scan.proofs.scan_opened.Tie as tie
 
 -- the sheet is accepted
-good : (c : tie.After-enum-told) → Good (c .before .before .before .args .sheet .now) (c .before .before .before .args .o)
+good : (c : tie.After-enum-told) → Good (c .before .before .before .args .sheet .now) (c .before .before .before .args .o) (c .before .before .before .args .rows .now) (c .before .before .before .args .lines .now)
 good c = c .before .before .before .pre .good (c .enum-told .given .1)
 
 -- the pick is the choice
-picked : (c : tie.After-choose) → Picks (c .choose .result) (best (c .before .before .before .before .before .before .before .before .before .before .args .«record» .state) (c .before .before .before .before .before .before .before .before .before .before .args .inputs) (c .before .before .before .bring-forward .result) (good (c .before .before .before .before .before .before .before) .sheet .transitions))
+picked : (c : tie.After-choose) → Picks (c .choose .result) (best (c .before .before .before .before .before .before .before .before .args .«record» .state) (c .before .before .before .before .before .before .before .before .args .inputs) (c .before .bring-forward .result) (good (c .before .before .before .before .before) .sheet .transitions))
 picked c =
-    let g = good (c .before .before .before .before .before .before .before) in
-    c .choose .ensures (g .sheet .transitions) (sym (g .copy .transitions)) (lines-hold (c .before .before .before .before .before .before .before .before .before .before .args .sheet .now) (c .before .before .before .before .before .before .before .before .before .before .args .o) g)
+    let a = c .before .before .before .before .before .before .before .before .args in
+    let g = good (c .before .before .before .before .before) in
+    c .choose .ensures (g .sheet .transitions) (sym (g .copy .transitions)) (lines-hold (a .sheet .now) (a .o) (a .rows .now) (a .lines .now) g)
 
 enum-known-verdict : tie.Need-enum-known-verdict
 enum-known-verdict c = search needs
@@ -39,24 +40,24 @@ returns : tie.Need-returns
 returns c =
     let a = c .before .before .before .before .before .before .args in
     let g = good (c .before .before .before) in
-    sym (scan-no-state (a .sheet .now) (a .o) g (a .«record») (a .inputs) (a .elapsed) (omega (arith, g .copy .states)))
+    sym (scan-no-state (a .sheet .now) (a .o) (a .rows .now) (a .lines .now) g (a .«record») (a .inputs) (a .elapsed) (omega (arith, g .copy .states)))
 
 bring-forward-requires : tie.Need-bring-forward-requires
 bring-forward-requires c κs = search needs
 
 choose-requires : tie.Need-choose-requires
 choose-requires c κs =
-    let a = c .before .before .before .before .before .before .before .before .before .args in
-    let g = good (c .before .before .before .before .before .before) in (
-      omega (arith, g .copy .transitions, fits (a .sheet .now) (a .o) g .transitions .1),
+    let a = c .before .before .before .before .before .before .before .args in
+    let g = good (c .before .before .before .before) in (
+      omega (arith, g .copy .transitions, fits (a .sheet .now) (a .o) (a .rows .now) (a .lines .now) g .transitions .1),
       λ i l. g .copy .line i (omega (arith, g .copy .transitions)) .near,
     )
 
 moved-requires : tie.Need-moved-requires
 moved-requires c κs =
-    let a = c .before .before .before .before .before .before .before .before .before .before .args in
-    let g = good (c .before .before .before .before .before .before .before) in
-    inside (a .sheet .now) (a .o) g (a .«record» .state) (a .inputs) (c .before .before .before .bring-forward .result) (c .choose .result) (picked c)
+    let a = c .before .before .before .before .before .before .before .before .args in
+    let g = good (c .before .before .before .before .before) in
+    inside (a .sheet .now) (a .o) (a .rows .now) (a .lines .now) g (a .«record» .state) (a .inputs) (c .before .bring-forward .result) (c .choose .result) (picked c)
 
 returns-2 : tie.Need-returns-2
 returns-2 c =
@@ -67,13 +68,13 @@ returns-2 c =
 returns-3 : tie.Need-returns-3
 unfolding scanOf
 returns-3 c =
-    let a = c .before .before .before .before .before .before .before .before .before .before .before .args in
-    let g = good (c .before .before .before .before .before .before .before .before) in
+    let a = c .before .before .before .before .before .before .before .before .before .args in
+    let g = good (c .before .before .before .before .before .before) in
     let q = a .«record» in
-    let clock = c .before .before .before .before .bring-forward .ensures in
-    let e = c .moved .ensures ∙ moved-is (a .sheet .now) (a .o) g q (a .inputs) (c .before .before .before .before .bring-forward .result) (c .before .choose .result) (picked (c .before)) in
+    let clock = c .before .before .bring-forward .ensures in
+    let e = c .moved .ensures ∙ moved-is (a .sheet .now) (a .o) (a .rows .now) (a .lines .now) g q (a .inputs) (c .before .before .bring-forward .result) (c .before .choose .result) (picked (c .before)) in
     ap accepted (e ∙ ap (λ (k : ℕ). after (g .sheet) q k (best (q .state) (a .inputs) k (g .sheet .transitions))) clock)
-    ∙ sym (scan-accepted (a .sheet .now) (a .o) g q (a .inputs) (a .elapsed) (omega (arith, g .copy .states)))
+    ∙ sym (scan-accepted (a .sheet .now) (a .o) (a .rows .now) (a .lines .now) g q (a .inputs) (a .elapsed) (omega (arith, g .copy .states)))
 
 pub scan-opened-spec : {M : Type 1} → statement M
 scan-opened-spec =
