@@ -183,8 +183,8 @@ rows-bad (ok xs next) n r rows q h e = done-bad (sym (h .0) ∙ e)
 rows-bad (no why) n r rows q h e = ap no (bad-is (sym h ∙ e))
 
 pub lines-done : (s : List ℕ) (k : ℕ) (x : Ans (List Transition)) (m : ℕ) (r : How) (lines : List ℕ) (c : Cursor) → HoldsLines s k x m r lines → r ≡ how.Done c
-    → (ts : List Transition) × (x ≡ ok ts (c .at)) × ((i : ℕ) → i < m → Holds s k (lineAt lines i) (getD ts i noTransition))
-lines-done s k (ok ts next) m r lines c h e = (ts, ap (λ (n : ℕ). ok ts n) (cursor-is (done-is (sym (h .0) ∙ e))), h .1)
+    → (ts : List Transition) × (x ≡ ok ts (c .at)) × (length lines ≡ 128) × ((i : ℕ) → i < m → Holds s k (lineAt lines i) (getD ts i noTransition))
+lines-done s k (ok ts next) m r lines c h e = (ts, ap (λ (n : ℕ). ok ts n) (cursor-is (done-is (sym (h .0) ∙ e))), h .1, h .2)
 lines-done s k (no why) m r lines c h e = done-bad (sym e ∙ h)
 
 pub lines-bad : (s : List ℕ) (k : ℕ) (x : Ans (List Transition)) (m : ℕ) (r : How) (lines : List ℕ) (q : Refusal) → HoldsLines s k x m r lines → r ≡ how.Bad q → x ≡ no q

@@ -99,7 +99,7 @@ HoldsRows (no why) n r rows = r ≡ how.Bad why
 
 abbrev pub HoldsLines : List ℕ → ℕ → Ans (List Transition) → ℕ → How → List ℕ → Type 0
 HoldsLines s k (ok ts next) m r lines =
-    (r ≡ how.Done (record { at = next })) × ((i : ℕ) → i < m → Holds s k (lineAt lines i) (getD ts i noTransition))
+    (r ≡ how.Done (record { at = next })) × (length lines ≡ 128) × ((i : ℕ) → i < m → Holds s k (lineAt lines i) (getD ts i noTransition))
 HoldsLines s k (no why) m r lines = r ≡ how.Bad why
 
 -- the code's copy, with the arrays lent to it, is that sheet
@@ -109,6 +109,7 @@ pub record Copy (s : List ℕ) (d : Decoded) (rows lines : List ℕ) (a : Sheet)
   pub outputs : d .outputs ≡ a .outputs
   pub transitions : d .transitions ≡ count a
   pub row : (i : ℕ) → i < a .states → getD rows i 0 ≡ wordOf (rowOf a i)
+  pub long : length lines ≡ 128
   pub line : (i : ℕ) → i < count a → Holds s (a .inputs) (lineAt lines i) (transitionOf a i)
 
 -- the code's answer is that of the reader

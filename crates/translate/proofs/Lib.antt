@@ -1,6 +1,6 @@
 pub mod LengthLaws
 pub mod SortLaws
-pub mod NextLaws
+pub mod InsertLaws
 pub mod RoomLaws
 pub mod WroteLaws
 pub mod ConditionLaws

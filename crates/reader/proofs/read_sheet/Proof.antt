@@ -5,7 +5,7 @@ use mathlib.Core.Bool.{Bool}
 use mathlib.Core.List.{List, []}
 use Prim.Native.Nat.{ℕ, _+_, _≤_, _<_}
 use native.Mathlib.Omega.{arith}
-use lib.ListN.{getD}
+use lib.ListN.{length, getD}
 use Rattle.bits.specs.Word.{wordOf}
 use Rattle.bits.specs.Read.{ok, no, upto}
 use Rattle.bits.proofs.ReadLaws.{upto-length}
@@ -58,6 +58,7 @@ lines-are : (c : tie.After-known-told3)
     → (ts : List Transition)
     × (upto (transitionAt (c .before .before .before .before .before .before .before .before .before .before .before .before .before .before .before .args .s .now) (c .before .before .before .before .before .before .before .before .before .before .before .h .given .0 .0 .states) (c .before .before .before .before .before .before .before .before .before .before .before .h .given .0 .0 .inputs)) (c .before .before .before .before .before .before .how1 .given .0 .0 .at) (c .before .before .before .before .before .before .before .before .before .before .before .h .given .0 .0 .transitions)
     ≡ ok ts (c .before .how2 .given .0 .0 .at))
+    × (length (c .before .before .before .read-transitions .last .1 .1 .1 .1 .1 .0) ≡ 128)
     × ((i : ℕ) → i < c .before .before .before .before .before .before .before .before .before .before .before .h .given .0 .0 .transitions
     → Holds (c .before .before .before .before .before .before .before .before .before .before .before .before .before .before .before .args .s .now) (c .before .before .before .before .before .before .before .before .before .before .before .h .given .0 .0 .inputs) (lineAt (c .before .before .before .read-transitions .last .1 .1 .1 .1 .1 .0) i) (getD ts i noTransition))
 lines-are c =
@@ -170,7 +171,8 @@ returns-4 c =
         outputs = refl;
         transitions = sym m;
         row = rows .2;
-        line = λ i l. lines .2 i (omega arith);
+        long = lines .2;
+        line = λ i l. lines .3 i (omega arith);
       },
     )
 

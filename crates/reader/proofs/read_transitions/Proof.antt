@@ -80,7 +80,7 @@ returns-2 c =
     let l = c .before .loop in
     let done : l .i ≡ a .m = omega arith in
     let e : upto (transitionAt (a .s .now) (a .n) (a .k)) (a .c .at) (a .m) ≡ ok (l .inv .3) (l .here .at) = rw done at (l .inv .4) in
-    rw e (refl, λ j h. l .inv .5 j (omega arith))
+    rw e (refl, l .inv .0, λ j h. l .inv .5 j (omega arith))
 
 pub read-transitions-spec : {M : Type 1} → statement M
 read-transitions-spec =
