@@ -42,6 +42,13 @@ fn put_header(
     put_item(out, c, transitions as u64, b"transition", b',')
 }
 
+// The header of a sheet; what else is read is let go.
+fn header_of(sheet: &[u8]) -> Decoded {
+    let mut rows = [0u16; 32];
+    let mut lines = [0u64; 128];
+    reader::read_sheet(sheet, &mut rows, &mut lines)
+}
+
 // What an accepted sheet has.
 fn put_accepted(out: &mut [u8], at: usize, d: Decoded) -> usize {
     let how = d.how;
@@ -52,7 +59,7 @@ fn put_accepted(out: &mut [u8], at: usize, d: Decoded) -> usize {
 
 fn put_verdict(out: &mut [u8], at: usize, sheet: &[u8], verdict: Checked) -> usize {
     match verdict {
-        Checked::Accepted => put_accepted(out, at, reader::read_sheet(sheet)),
+        Checked::Accepted => put_accepted(out, at, header_of(sheet)),
         Checked::Refused(_) => why::put_refusal(out, at, verdict),
     }
 }
@@ -131,7 +138,7 @@ pub fn translate_command(first: usize, second: usize) -> u8 {
 
 // Both cold records of an accepted sheet.
 fn cold(sheet: &[u8]) -> Play {
-    let d = reader::read_sheet(sheet);
+    let d = header_of(sheet);
     let started = translate::cold_run(sheet);
     let referred = scan::cold_scan(sheet);
     let record = started.record;
