@@ -266,7 +266,9 @@ fn by_code(t: Tally, sheet: &[u8], code: &[u8]) -> Tally {
 
 // The two-contact sheet: 25 transitions, 1,319 bits, 165 bytes and 271 words of code.
 fn has_its_sizes(sheet: &[u8], length: usize) -> bool {
-    let d = reader::read_sheet(sheet);
+    let mut rows = [0u16; 32];
+    let mut lines = [0u64; 128];
+    let d = reader::read_sheet(sheet, &mut rows, &mut lines);
     let how = d.how;
     match how {
         How::Done(c) => (c.at == 1319)
