@@ -260,14 +260,7 @@ fn read_transition(s: &[u8], c: Cursor, n: u32, k: u32) -> LineRead
 }
 
 // The first m transitions.
-fn read_transitions(
-    s: &[u8],
-    c: Cursor,
-    n: u32,
-    k: u32,
-    m: usize,
-    lines: &mut [u64; 128],
-) -> How
+fn read_transitions(s: &[u8], c: Cursor, n: u32, k: u32, m: usize, lines: &mut [u64; 128]) -> How
     requires { ⌜ (c .at ≤ 1000) × (m ≤ 128) × (length (now lines) ≡ 128) ⌝ }
     ensures { λ r. ⌜ HoldsLines (now (s .entry)) k (upto (transitionAt (now (s .entry)) n k) (c .at) m) m r (now (lines .exit)) ⌝ }
 {

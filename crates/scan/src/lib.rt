@@ -105,7 +105,15 @@ fn moved(rows: &[u16; 32], record: State, clock: u32, p: Pick) -> State
 }
 
 // A scan on a sheet that was opened.
-fn scan_opened(sheet: &[u8], o: Opened, rows: &[u16; 32], lines: &[u64; 128], record: State, inputs: u16, elapsed: u32) -> Scanned
+fn scan_opened(
+    sheet: &[u8],
+    o: Opened,
+    rows: &[u16; 32],
+    lines: &[u64; 128],
+    record: State,
+    inputs: u16,
+    elapsed: u32,
+) -> Scanned
     requires { ⌜ Opens (now sheet) o (now rows) (now lines) ⌝ }
     ensures { λ r. ⌜ r ≡ scanSheet (now (sheet .entry)) «record» inputs elapsed ⌝ }
 {
