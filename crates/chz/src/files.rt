@@ -48,9 +48,8 @@ fn read_all(fd: i32, buf: &mut [u8]) -> Read {
     Read::Fault
 }
 
-// The sheet in the file that an argument names. 4,096 bytes of it are enough for the right answer on any file: numbers 1 to 6
-// are judged in reading order and no field of a sheet lies beyond byte 2,738 (20 + 32 * 16 + 128 * (41 + 126) bits), so a
-// longer file has the same number and place as its first 4,096 bytes, 6 at the latest.
+// The sheet in the file that an argument names. 4,096 bytes of it are enough for the right answer on any file: the theorem
+// `first-bytes` of the crate `rules`.
 pub fn read_sheet(word: usize, sheet: &mut [u8]) -> Read {
     let mut name = io::buffer();
     let n = os::arg(word, &mut name);

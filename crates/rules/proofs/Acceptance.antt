@@ -20,6 +20,7 @@ use Rattle.rules.proofs.Fits.{rules-fit}
 use Rattle.rules.proofs.SheetStands.{sheet-said, sheet-reads}
 use Rattle.rules.proofs.Packing.{packed-stands, packed-bytes, packed-only}
 use Rattle.rules.proofs.Longest.{few-bytes}
+use Rattle.rules.proofs.FirstBytes.{first-bytes}
 use Rattle.rules.proofs.ReadFits.{read-fits}
 
 judge-read : (x : Ans Sheet) → judgeRead x ≡ Accepted → (a : Sheet) × (end : ℕ) × (x ≡ ok a end) × (judge a ≡ Accepted)
@@ -71,4 +72,4 @@ pub no-longer : (s : List ℕ) → checkSheet s ≡ Accepted → length s ≤ 25
 no-longer s h = let x = accepted-rules s h in few-bytes s (x .0) (x .1) (x .2) (x .3)
 
 pub acceptance : Acceptance
-acceptance = record { exactly = accepted-exactly; one-sheet = one-sheet; no-longer = no-longer }
+acceptance = record { exactly = accepted-exactly; one-sheet = one-sheet; no-longer = no-longer; first-bytes = first-bytes }

@@ -14,4 +14,5 @@ pub mod Packing
 pub mod Pigeons
 pub mod Counting
 pub mod Longest
+pub mod FirstBytes
 pub mod Acceptance

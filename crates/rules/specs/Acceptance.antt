@@ -3,7 +3,7 @@ use Prim.Native.Nat.{ℕ, _≤_, _<_}
 use mathlib.Core.Path.{_≡_}
 use mathlib.Core.Logic.{_↔_}
 use mathlib.Core.List.{List}
-use lib.ListN.{length, getD}
+use lib.ListN.{length, getD, take}
 use Rattle.answer.specs.declared.Checked.the-variants.{Accepted}
 use Rattle.reader.specs.Sheet.{Sheet}
 use Rattle.sheet.specs.Judging.{checkSheet}
@@ -21,3 +21,5 @@ pub record Acceptance : Type 0 where
   pub one-sheet : (a b : Sheet) → Rules a → Rules b → sheetOf a ≡ sheetOf b → a ≡ b
   -- "No accepted sheet is longer than 2,537 bytes."
   pub no-longer : (s : List ℕ) → checkSheet s ≡ Accepted → length s ≤ 2537
+  -- a longer byte string is answered as its first 4,096 bytes are
+  pub first-bytes : (s : List ℕ) → checkSheet (take 4096 s) ≡ checkSheet s
