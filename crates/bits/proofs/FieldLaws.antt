@@ -1,6 +1,6 @@
 -- Laws of fields: the number at bits at .. at + w. Assumes nothing.
 use mathlib.Core.Path.{_≡_, refl, sym, ap, _∙_}
-use mathlib.Core.Logic.{⊎-elim}
+use mathlib.Core.Logic.{_⊎_, ⊎-elim}
 use mathlib.Core.List.{List}
 use Prim.Native.Nat.{ℕ, zero, suc, _+_, _*_, _-_, _/_, _%_, _^_, _≤_, _<_}
 use native.Mathlib.Nat.{mod-lt, two-pow-succ, pow-succ', add-suc, add-zero, mul-one, pow-zero, add-assoc, mul-assoc, mul-comm, add-mul, le-of-suc-le, eq-or-lt-of-le, div-div-eq-div-mul}
@@ -72,27 +72,34 @@ cut-above y s p a w b =
 cut-all : (y : ℕ) (s : List ℕ) (p a w b n : ℕ) → a + w + b ≡ n → (y * 2 ^ n + numAt s p n) / 2 ^ b % 2 ^ w ≡ numAt s (p + a) w
 cut-all y s p a w b n e = rw (← e) (cut-above y s p a w b)
 
--- a field of at most 9 bits, cut out of its first and its last byte, which may be one
-pub num-two : (s : List ℕ) (at w last b : ℕ) → last ≡ (at + w + 7) / 8 - 1 → b ≡ (at + w + 7) / 8 * 8 - (at + w) → 1 ≤ w → w ≤ 9
-    → getD s (at / 8) 0 < 256 → getD s last 0 < 256 → (getD s (at / 8) 0 * 256 + getD s last 0) / 2 ^ b % 2 ^ w ≡ numAt s at w
-num-two s at w last b e f l h x y = let low : at / 8 ≤ last = omega arith in ⊎-elim one two (eq-or-lt-of-le low)
+-- a field cut out of the last bytes that it is in, k of them, with its first byte above them, which may be the first of the k
+pub num-tail : (s : List ℕ) (at w stop k b : ℕ) → stop ≡ (at + w + 7) / 8 → b ≡ stop * 8 - (at + w) → 1 ≤ w → k ≤ stop
+    → (at / 8 ≡ stop - k) ⊎ (at / 8 + 1 ≡ stop - k) → getD s (at / 8) 0 < 256
+    → (getD s (at / 8) 0 * 2 ^ (k * 8) + numAt s ((stop - k) * 8) (k * 8)) / 2 ^ b % 2 ^ w ≡ numAt s at w
+num-tail s at w stop k b e f l h q x = ⊎-elim within above q
   where
     start : at / 8 * 8 + at % 8 ≡ at
     start = omega arith
 
-    one : at / 8 ≡ last → (getD s (at / 8) 0 * 256 + getD s last 0) / 2 ^ b % 2 ^ w ≡ numAt s at w
-    one q =
-        let cut = cut-all (getD s (at / 8) 0) s (at / 8 * 8) (at % 8) w b 8 (omega arith) in
-        rw (← q) (rw (start, num-byte s (at / 8) x) at cut)
+    within : at / 8 ≡ stop - k → (getD s (at / 8) 0 * 2 ^ (k * 8) + numAt s ((stop - k) * 8) (k * 8)) / 2 ^ b % 2 ^ w ≡ numAt s at w
+    within q =
+        let cut = cut-all (getD s (at / 8) 0) s (at / 8 * 8) (at % 8) w b (k * 8) (omega arith) in
+        rw (← q) (rw start at cut)
 
-    two : at / 8 < last → (getD s (at / 8) 0 * 256 + getD s last 0) / 2 ^ b % 2 ^ w ≡ numAt s at w
-    two q =
-        let next : last * 8 ≡ at / 8 * 8 + 8 = omega arith in
-        let bits : at % 8 + w + b ≡ 8 + 8 = omega arith in
-        let second : numAt s (at / 8 * 8 + 8) 8 ≡ getD s last 0 = rw (← next) (num-byte s last y) in
-        let all : numAt s (at / 8 * 8) (at % 8 + w + b) ≡ getD s (at / 8) 0 * 256 + getD s last 0 =
-        rw (bits, num-join s (at / 8 * 8) 8 8, num-byte s (at / 8) x, second) in
+    above : at / 8 + 1 ≡ stop - k → (getD s (at / 8) 0 * 2 ^ (k * 8) + numAt s ((stop - k) * 8) (k * 8)) / 2 ^ b % 2 ^ w ≡ numAt s at w
+    above q =
+        let next : (stop - k) * 8 ≡ at / 8 * 8 + 8 = omega arith in
+        let bits : at % 8 + w + b ≡ 8 + k * 8 = omega arith in
+        let all : numAt s (at / 8 * 8) (at % 8 + w + b) ≡ getD s (at / 8) 0 * 2 ^ (k * 8) + numAt s ((stop - k) * 8) (k * 8) =
+        rw (bits, num-join s (at / 8 * 8) 8 (k * 8), num-byte s (at / 8) x, next) refl in
         rw (← all) (rw start at (num-cut s (at / 8 * 8) (at % 8) w b))
+
+-- one byte more
+pub num-bytes : (s : List ℕ) (i k : ℕ) → getD s (i + k) 0 < 256 → numAt s (i * 8) ((k + 1) * 8) ≡ numAt s (i * 8) (k * 8) * 256 + getD s (i + k) 0
+num-bytes s i k h =
+    let bits : (k + 1) * 8 ≡ k * 8 + 8 = omega arith in
+    let place : i * 8 + k * 8 ≡ (i + k) * 8 = omega arith in
+    rw (bits, num-join s (i * 8) (k * 8) 8, place, num-byte s (i + k) h) refl
 
 -- a field is below its power
 pub num-below : (s : List ℕ) (at : ℕ) {w k : ℕ} → w ≤ k → numAt s at w < 2 ^ k

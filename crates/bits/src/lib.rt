@@ -1,8 +1,9 @@
 // Bits: a field of a bit-packed byte string, most significant bit first; and a bit of a word, bit i having weight 2^i.
 ghost use mathlib.Core.Path.{_≡_};
 ghost use mathlib.Core.Bool.{true, false};
-ghost use Prim.Native.Nat.{_≤_, _<_};
-ghost use Rattle.bits.specs.Field.{fieldAt};
+ghost use Prim.Native.Nat.{_+_, _*_, _-_, _/_, _%_, _^_, _≤_, _<_};
+ghost use lib.ListN.{length};
+ghost use Rattle.bits.specs.Field.{numAt, fieldAt};
 ghost use Rattle.bits.specs.Word.{getBit, putBit};
 
 // The next bit to be read.
@@ -16,8 +17,26 @@ pub enum Got {
     Short,
 }
 
-// The field of `width` bits from the cursor on: whole bytes are gathered, at most four, and the field is cut out of them.
-// Up to 9 bits are in two bytes at most; a single byte is taken twice, since what stands above a field is cut off.
+// The bytes before `stop` that the field at `at` is in. As many of the last ones are taken as a field of this width fills at least,
+// and its first byte, which may be one of them, is put above them: what stands above a field is cut off.
+fn gathered(s: &[u8], at: usize, width: usize, stop: usize) -> u64
+    requires { ⌜ (at < 1000000) × (1 ≤ width) × (width ≤ 24) × (stop ≡ (at + width + 7) / 8) × (stop ≤ length (now s)) ⌝ }
+    ensures { λ r. ⌜ r / 2 ^ (stop * 8 - (at + width)) % 2 ^ width ≡ numAt (now (s .entry)) at width ⌝ }
+{
+    let first = s[at / 8] as u64;
+    let last = s[stop - 1] as u64;
+    if width <= 9 {
+        return first * 256 + last;
+    }
+    let second = s[stop - 2] as u64;
+    if width <= 17 {
+        return (first * 256 + second) * 256 + last;
+    }
+    let third = s[stop - 3] as u64;
+    ((first * 256 + third) * 256 + second) * 256 + last
+}
+
+// The field of `width` bits from the cursor on, cut out of the bytes that it is in.
 pub fn field(s: &[u8], c: Cursor, width: usize) -> Got
     requires { ⌜ (c .at < 1000000) × (1 ≤ width) × (width ≤ 24) ⌝ }
     ensures { λ r. ⌜ r ≡ fieldAt (now (s .entry)) (c .at) width ⌝ }
@@ -28,21 +47,9 @@ pub fn field(s: &[u8], c: Cursor, width: usize) -> Got
     if s.len() < stop {
         return Got::Short;
     }
+    let all = gathered(s, at, width, stop);
     let spare = stop * 8 - end;
     let one: u64 = 1;
-    if width <= 9 {
-        let both = (s[at / 8] as u64) * 256 + (s[stop - 1] as u64);
-        return Got::Field(
-            ((both >> spare) % (one << width)) as u32,
-            Cursor { at: end },
-        );
-    }
-    let mut i = at / 8;
-    let mut all: u64 = 0;
-    while i < stop {
-        all = all * 256 + (s[i] as u64);
-        i += 1;
-    }
     Got::Field(((all >> spare) % (one << width)) as u32, Cursor { at: end })
 }
 
