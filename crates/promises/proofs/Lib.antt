@@ -17,6 +17,7 @@ pub mod JudgeProof
 pub mod WordFaultProof
 pub mod CodeFaultProof
 pub mod ReadProof
+pub mod ExactlyProof
 pub mod RefusalsProof
 pub mod LeftProof
 pub mod Closing

@@ -25,6 +25,7 @@ use Rattle.promises.proofs.AcceptedLaws.{accepted-refused, refused-is, 
 use Rattle.promises.proofs.JudgeProof.{to-13, judge-lowest}
 use Rattle.promises.proofs.CodeFaultProof.{code-lowest}
 use Rattle.promises.proofs.ReadProof.{unread}
+use Rattle.promises.proofs.ExactlyProof.{exactly}
 
 -- reading gives 1 to 6
 unread-number : (s : List ℕ) (why : Refusal) → Unread s why → number why ≤ 6
@@ -80,6 +81,7 @@ pub refusals : Refusals
 unfolding checkSheet translateInto scanSheet
 refusals = record {
   unread = λ s why e. (unread s why e, rw e refl);
+  exactly = exactly;
   read = λ s a end e. rw e (judge-lowest a);
   code = code-lowest;
   room = λ s buffer bytes. (

@@ -103,6 +103,8 @@ Unread s (refuse.NoState state) = ⊥
 pub record Refusals : Type 0 where
   -- a sheet is refused in reading, or read to its end and judged by the lowest fault
   pub unread : (s : List ℕ) (why : Refusal) → readSheet s ≡ no why → Unread s why × (checkSheet s ≡ Refused why)
+  -- and 1 to 6 are given exactly there
+  pub exactly : (s : List ℕ) (why : Refusal) → Unread s why → readSheet s ≡ no why
   pub read : (s : List ℕ) (a : Sheet) (end : ℕ) → readSheet s ≡ ok a end → Lowest (SheetFault a) (checkSheet s)
   -- code is judged by the lowest fault
   pub code : (s : List ℕ) → Lowest (CodeFault s) (checkCode s)
