@@ -52,11 +52,15 @@ noted-length true marks k = simp length-set
 noted-length false marks k = refl
 
 module _ (marks : List ℕ) (k : ℕ) (size : length marks ≡ 256) (small : k < 8192) where
-  pub noted-same : (b : Bool) → marked marks k ≡ false → marked (noted b marks k) k ≡ b
+  pub noted-now : marked (noted true marks k) k ≡ true
   unfolding marked noted
-  noted-same true e =
+  noted-now =
       rw (getD-set-same marks (k / 32) (putBit (getD marks (k / 32) 0) (k % 32) true) 0 (omega arith))
       (get-put-same (getD marks (k / 32) 0) (k % 32) true)
+
+  pub noted-same : (b : Bool) → marked marks k ≡ false → marked (noted b marks k) k ≡ b
+  unfolding noted
+  noted-same true e = noted-now
   noted-same false e = e
 
   pub noted-other : (b : Bool) (j : ℕ) → j ≢ k → marked (noted b marks k) j ≡ marked marks j
@@ -71,6 +75,26 @@ module _ (marks : List ℕ) (k : ℕ) (size : length marks ≡ 256) (small : k <
           (get-put-other w (k % 32) (j % 32) true (λ z. h (omega arith)))
       go false e w q = rw (getD-set-other marks (k / 32) (j / 32) (putBit w (k % 32) true) 0 (eqb-false (j / 32) (k / 32) e))
   noted-other false j h = refl
+
+  -- a mark stays
+  noted-keep : (j : ℕ) → marked marks j ≡ true → marked (noted true marks k) j ≡ true
+  noted-keep j m = go (eqb j k) refl
+    where
+      go : (b : Bool) → eqb j k ≡ b → marked (noted true marks k) j ≡ true
+      go true e = rw (eqb-true j k e) noted-now
+      go false e = noted-other true j (eqb-false j k e) ∙ m
+
+-- the same where it is known to be small only if it is noted
+module _ (marks : List ℕ) (k : ℕ) (size : length marks ≡ 256) where
+  pub noted-keeps : (b : Bool) → (b ≡ true → k < 8192) → (j : ℕ) → marked marks j ≡ true → marked (noted b marks k) j ≡ true
+  unfolding noted
+  noted-keeps true small j m = noted-keep marks k size (small refl) j m
+  noted-keeps false small j m = m
+
+  pub noted-before : (b : Bool) → (b ≡ true → k < 8192) → (j : ℕ) → (b ≡ true → j < k) → marked (noted b marks k) j ≡ marked marks j
+  unfolding noted
+  noted-before true small j less = noted-other marks k size (small refl) true j (λ e. omega (arith, less refl))
+  noted-before false small j less = refl
 
 -- below `at` the marks are p, and from there on there is none
 pub record Marks (p : ℕ → Bool) (marks : List ℕ) (at : ℕ) : Type 0 where

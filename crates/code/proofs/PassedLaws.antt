@@ -40,9 +40,9 @@ module _ (s : List ℕ) where
   check-word e f = rw (e, f)
 
   pub check-landing : endFault s ≡ false → firstFault (length (words s)) 0 0 (words s) ≡ Nothing
-      → {w : ℕ} → firstLanding (map decode (words s)) 0 (map decode (words s)) ≡ At w → checkCode s ≡ Refused (refuse.Landing w)
+      → checkCode s ≡ refuseAt refuse.Landing (firstLanding (map decode (words s)) 0 (map decode (words s))) Accepted
   unfolding checkCode
-  check-landing e f g = rw (e, f, g)
+  check-landing e f = rw (e, f)
 
   pub check-passed : endFault s ≡ false → firstFault (length (words s)) 0 0 (words s) ≡ Nothing
       → firstLanding (map decode (words s)) 0 (map decode (words s)) ≡ Nothing → checkCode s ≡ Accepted

@@ -5,13 +5,17 @@ use mathlib.Core.List.{List, [], _∷_, map}
 use Prim.Native.Nat.{ℕ, suc, _+_, _-_, _*_, _/_, _%_, _≤_, _<_}
 use lib.Dec.{eqb, ltb}
 use lib.ListN.{length, getD, set}
-use Rattle.answer.specs.declared.Found.the-variants.{Nothing}
+use Rattle.answer.specs.declared.Found.the-variants.{At, Nothing}
 use Rattle.bits.specs.Word.{getBit, putBit}
 use Rattle.code.specs.declared.Record.{Record}
 use Rattle.code.specs.declared.Held.{Held}
+use Rattle.code.specs.declared.After.{After}
+use Rattle.code.specs.declared.After.the-variants.{Fault, Jump, Open}
+use Rattle.code.specs.declared.Pass.{Pass}
+use Rattle.code.specs.declared.Pass.the-variants as pass
 use Rattle.code.specs.Word.{Word, END, LDS, LDI, NOT, ANDP, ORP, PAR, ANDT, R, S, RA, SA, JMPC, JMP, TRES, known, decode, words}
 use Rattle.code.specs.Machine.{Frame, andF, orF, exec}
-use Rattle.code.specs.Check.{opens, faulty, firstFault, depthAt}
+use Rattle.code.specs.Check.{opens, faulty, firstFault, depthAt, firstLanding}
 
 -- word `at` as a number
 abbrev pub wordAt : List ℕ → ℕ → ℕ
@@ -21,10 +25,27 @@ wordAt s at = getD (words s) at 0
 unfoldable pub marked : List ℕ → ℕ → Bool
 marked marks k = getBit (getD marks (k / 32) 0) (k % 32)
 
--- the marks with one more, if a parenthesis is open
+-- the marks with one more, if it is to be
 unfoldable pub noted : Bool → List ℕ → ℕ → List ℕ
 noted true marks k = set marks (k / 32) (putBit (getD marks (k / 32) 0) (k % 32) true)
 noted false marks k = marks
+
+-- the codes of JMPC and JMP
+abbrev pub jumps : ℕ → Bool
+jumps k = eqb k 12 || eqb k 13
+
+-- what is told after a word: whether it is at fault, whether it is a jump, and the parentheses open after it
+abbrev pub stepped : Bool → Bool → ℕ → After
+stepped true jump d = Fault
+stepped false true d = Jump
+stepped false false d = Open d
+
+-- what one pass tells is so; of a landing it tells no place, and the search for the lowest needs only that no word is at fault
+abbrev pub Told : List ℕ → Pass → Type 0
+Told s (pass.Fault k) = firstFault (length (words s)) 0 0 (words s) ≡ At k
+Told s pass.Landing = firstFault (length (words s)) 0 0 (words s) ≡ Nothing
+Told s pass.Sound =
+    (firstFault (length (words s)) 0 0 (words s) ≡ Nothing) × (firstLanding (map decode (words s)) 0 (map decode (words s)) ≡ Nothing)
 
 -- code without a faulty word, and each word marked before which a parenthesis is open
 pub record AllMarked (s bits : List ℕ) : Type 0 where

@@ -1,19 +1,21 @@
 // Code: its words, the check that refuses faulty code, and the machine that runs one scan of it.
 ghost use mathlib.Core.Path.{_≡_};
-ghost use mathlib.Core.Bool.{true, false, _||_};
+ghost use mathlib.Core.Bool.{true, false, _&&_, _||_};
 ghost use mathlib.Core.List.{List, [], map};
-ghost use Prim.Native.Nat.{ℕ, _+_, _*_, _/_, _%_, _≤_, _<_};
+ghost use Prim.Native.Nat.{ℕ, pred, _+_, _*_, _/_, _%_, _≤_, _<_};
 ghost use lib.ListN.{length, getD, replicate};
-ghost use lib.Dec.{ltb};
+ghost use lib.Dec.{eqb, ltb};
 ghost use mir.Val.{boolByte};
 ghost use Rattle.answer.specs.declared.Checked.the-variants.{Accepted};
 ghost use Rattle.answer.specs.declared.Found.the-variants.{Nothing};
+ghost use Rattle.answer.specs.declared.Refusal.the-variants.{Landing};
+ghost use Rattle.answer.specs.Lowest.{refuseAt};
 ghost use Rattle.bits.specs.Word.{getBit, putBit};
 ghost use Rattle.code.specs.Word.{known, decode, words};
 ghost use Rattle.code.specs.Machine.{Frame, withClock, flagTo, outTo, exec};
 ghost use Rattle.code.specs.Check.{endFault, opens, faulty, unknown, firstFault, depthAt, landsOpen, firstLanding, checkCode};
 ghost use Rattle.code.specs.Run.{runCode};
-ghost use Rattle.code.specs.Held.{wordAt, marked, noted, AllMarked, held, recOf, joinTop, enc, Ready, Step};
+ghost use Rattle.code.specs.Held.{wordAt, marked, noted, jumps, stepped, Told, AllMarked, held, recOf, joinTop, enc, Ready, Step};
 use answer::Checked;
 use answer::Found;
 use answer::Refusal;
@@ -29,6 +31,20 @@ pub struct Record {
 pub struct Ran {
     pub verdict: Checked,
     pub record: Record,
+}
+
+// What follows a word: it is at fault; or it is a jump, and as many parentheses are open as before it; or so many are open.
+enum After {
+    Fault,
+    Jump,
+    Open(usize),
+}
+
+// What one pass over the words tells: the first at fault; or, where none is, whether some jump lands inside a parenthesis.
+enum Pass {
+    Fault(usize),
+    Landing,
+    Sound,
 }
 
 // The machine between two words. What is put aside stands in base 4, the last one in the lowest digit: 2 for AND(, 1 for a true result.
@@ -81,28 +97,52 @@ fn end_fault(code: &[u8]) -> bool
     0 < code[len - 4]
 }
 
-// Whether word `at` of n is at fault, with d parentheses open before it.
-fn word_fault(n: usize, at: usize, d: usize, op: u8, arg: usize) -> bool
-    requires { ⌜ arg < 16777216 ⌝ }
-    ensures { λ r. ⌜ r ≡ (unknown (op * 16777216 + arg) || faulty n at d (decode (op * 16777216 + arg))) ⌝ }
+// After a word that leaves d parentheses open, unless it is at fault.
+fn unless(fault: bool, d: usize) -> After
+    ensures { λ r. ⌜ r ≡ stepped fault false d ⌝ }
+{
+    if fault { After::Fault } else { After::Open(d) }
+}
+
+// After ), where `spare` says whether its operand is at fault.
+fn closed(spare: bool, d: usize) -> After
+    ensures { λ r. ⌜ r ≡ stepped (spare || eqb d 0) false (pred d) ⌝ }
+{
+    if spare | (d == 0) {
+        return After::Fault;
+    }
+    After::Open(d - 1)
+}
+
+// After a jump, unless it is at fault.
+fn jumped(fault: bool) -> After
+    ensures { λ r. ⌜ ((d : ℕ) → r ≡ stepped fault true d) ⌝ }
+{
+    if fault { After::Fault } else { After::Jump }
+}
+
+// After word `at` of n, with d parentheses open before it.
+fn after_word(n: usize, at: usize, d: usize, op: u8, arg: usize) -> After
+    requires { ⌜ (arg < 16777216) × (d < 65536) ⌝ }
+    ensures { λ r. ⌜ r ≡ stepped (unknown (op * 16777216 + arg) || faulty n at d (decode (op * 16777216 + arg))) (jumps op) (opens (known op arg) d) ⌝ }
 {
     match op {
-        0 => (0 < arg) | (0 < d),
-        1 => (31 < arg) | (0 < d),
-        2 => 15 < arg,
-        3 => 0 < arg,
-        4 => (0 < arg) | (8 <= d),
-        5 => (0 < arg) | (8 <= d),
-        6 => (0 < arg) | (d == 0),
-        7 => false,
-        8 => 31 < arg,
-        9 => 31 < arg,
-        10 => 15 < arg,
-        11 => 15 < arg,
-        12 => !((at < arg) & (arg < n)) | (0 < d),
-        13 => !((at < arg) & (arg < n)) | (0 < d),
-        14 => 0 < arg,
-        _ => true,
+        0 => unless((0 < arg) | (0 < d), d),
+        1 => unless((31 < arg) | (0 < d), d),
+        2 => unless(15 < arg, d),
+        3 => unless(0 < arg, d),
+        4 => unless((0 < arg) | (8 <= d), d + 1),
+        5 => unless((0 < arg) | (8 <= d), d + 1),
+        6 => closed(0 < arg, d),
+        7 => unless(false, d),
+        8 => unless(31 < arg, d),
+        9 => unless(31 < arg, d),
+        10 => unless(15 < arg, d),
+        11 => unless(15 < arg, d),
+        12 => jumped(!((at < arg) & (arg < n)) | (0 < d)),
+        13 => jumped(!((at < arg) & (arg < n)) | (0 < d)),
+        14 => unless(0 < arg, d),
+        _ => After::Fault,
     }
 }
 
@@ -150,29 +190,71 @@ fn is_marked(marks: &[u32; 256], k: usize) -> bool
     requires { ⌜ k < 8192 ⌝ }
     ensures { λ r. ⌜ r ≡ marked (now (marks .entry)) k ⌝ }
 {
-    bits::get_bit(marks[k / 32], (k % 32) as u32)
+    let bit = k as u32;
+    bits::get_bit(marks[(bit / 32) as usize], bit % 32)
 }
 
-// 16: the first of n words that is at fault. On the way each word before which a parenthesis is open is marked.
-fn first_fault(code: &[u8], n: usize, marks: &mut [u32; 256]) -> Found
+// Marks word k, which may be marked already.
+fn aim(targets: &mut [u32; 256], k: usize)
+    requires { ⌜ (k < 8192) × (length (now targets) ≡ 256) ⌝ }
+    ensures { λ r. ⌜ now (targets .exit) ≡ noted true (now (targets .entry)) k ⌝ }
+{
+    let i = k / 32;
+    targets[i] = bits::set_bit(targets[i], (k % 32) as u32);
+}
+
+// Whether word `at` is marked, and a parenthesis is open before it.
+fn marked_inside(targets: &[u32; 256], at: usize, d: usize) -> bool
+    requires { ⌜ at < 8192 ⌝ }
+    ensures { λ r. ⌜ r ≡ (ltb 0 d && marked (now (targets .entry)) at) ⌝ }
+{
+    if 0 < d {
+        return is_marked(targets, at);
+    }
+    false
+}
+
+// 16, and whether there is a 17. The targets of jumps are marked: they go forward, so that at each word all jumps to it have been met.
+fn one_pass(code: &[u8], n: usize) -> Pass
+    requires { ⌜ (n ≡ length (words (now code))) × (n * 4 ≤ length (now code)) × (n ≤ 8192) ⌝ }
+    ensures { λ r. ⌜ Told (now (code .entry)) r ⌝ }
+{
+    let mut targets = [0u32; 256];
+    let mut landing = false;
+    let mut at = 0;
+    let mut d = 0;
+    while at < n {
+        if marked_inside(&targets, at, d) {
+            landing = true;
+        }
+        let op = code_byte(code, at);
+        let arg = operand(code, at);
+        let next = after_word(n, at, d, op, arg);
+        match next {
+            After::Fault => return Pass::Fault(at),
+            After::Jump => aim(&mut targets, arg),
+            After::Open(e) => {
+                d = e;
+            }
+        }
+        at += 1;
+    }
+    if landing { Pass::Landing } else { Pass::Sound }
+}
+
+// Marks each of n words before which a parenthesis is open.
+fn mark_open(code: &[u8], n: usize, marks: &mut [u32; 256])
     requires { ⌜ (n ≡ length (words (now code))) × (n * 4 ≤ length (now code)) × (n ≤ 8192) ⌝ }
     requires { ⌜ now marks ≡ replicate 256 0 ⌝ }
-    ensures place { λ r. ⌜ r ≡ firstFault n 0 0 (words (now (code .entry))) ⌝ }
-    ensures noted { λ r. ⌜ (r ≡ Nothing → (k : ℕ) → k < n → marked (now (marks .exit)) k ≡ ltb 0 (depthAt 0 (map decode (words (now (code .entry)))) k)) ⌝ }
+    ensures { λ r. ⌜ ((k : ℕ) → k < n → marked (now (marks .exit)) k ≡ ltb 0 (depthAt 0 (map decode (words (now (code .entry)))) k)) ⌝ }
 {
     let mut at = 0;
     let mut d = 0;
     while at < n {
-        let op = code_byte(code, at);
-        let arg = operand(code, at);
         note(marks, at, 0 < d);
-        if word_fault(n, at, d, op, arg) {
-            return Found::At(at);
-        }
-        d = opened(op, d);
+        d = opened(code_byte(code, at), d);
         at += 1;
     }
-    Found::Nothing
 }
 
 // Whether word `at` is a jump to a word before which a parenthesis is open.
@@ -189,7 +271,7 @@ fn lands_open(code: &[u8], marks: &[u32; 256], at: usize) -> bool
     false
 }
 
-// 17: the first of n words that is such a jump.
+// 17: the first of n words that is such a jump, where the words are marked.
 fn first_landing(code: &[u8], n: usize, marks: &[u32; 256]) -> Found
     requires { ⌜ n ≡ length (words (now code)) ⌝ }
     requires { ⌜ AllMarked (now code) (now marks) ⌝ }
@@ -205,7 +287,28 @@ fn first_landing(code: &[u8], n: usize, marks: &[u32; 256]) -> Found
     Found::Nothing
 }
 
-// Whether code may be run: 15, then 16, then 17, each at its lowest place.
+// 17, in two passes more.
+fn lowest_landing(code: &[u8], n: usize) -> Found
+    requires { ⌜ (n ≡ length (words (now code))) × (length (now code) ≤ 32768) ⌝ }
+    requires { ⌜ firstFault (length (words (now code))) 0 0 (words (now code)) ≡ Nothing ⌝ }
+    ensures { λ r. ⌜ r ≡ firstLanding (map decode (words (now (code .entry)))) 0 (map decode (words (now (code .entry)))) ⌝ }
+{
+    let mut marks = [0u32; 256];
+    mark_open(code, n, &mut marks);
+    first_landing(code, n, &marks)
+}
+
+// The answer by what was found for 17.
+fn landed(landing: Found) -> Checked
+    ensures { λ r. ⌜ r ≡ refuseAt Landing landing Accepted ⌝ }
+{
+    match landing {
+        Found::At(word) => Checked::Refused(Refusal::Landing(word)),
+        Found::Nothing => Checked::Accepted,
+    }
+}
+
+// Whether code may be run: 15, then 16, then 17, each at its lowest place. The words are passed over again only if there is a 17.
 pub fn check_code(code: &[u8]) -> Checked
     ensures { λ r. ⌜ r ≡ checkCode (now (code .entry)) ⌝ }
 {
@@ -213,16 +316,12 @@ pub fn check_code(code: &[u8]) -> Checked
         return Checked::Refused(Refusal::CodeEnd);
     }
     let n = code.len() / 4;
-    let mut marks = [0u32; 256];
-    let fault = first_fault(code, n, &mut marks);
-    if let Found::At(word) = fault {
-        return Checked::Refused(Refusal::Word(word));
+    let pass = one_pass(code, n);
+    match pass {
+        Pass::Fault(word) => Checked::Refused(Refusal::Word(word)),
+        Pass::Landing => landed(lowest_landing(code, n)),
+        Pass::Sound => Checked::Accepted,
     }
-    let landing = first_landing(code, n, &marks);
-    if let Found::At(word) = landing {
-        return Checked::Refused(Refusal::Landing(word));
-    }
-    Checked::Accepted
 }
 
 // LDS, LDI, NOT and ANDT: the next word, with this result.
