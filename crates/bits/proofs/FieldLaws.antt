@@ -3,17 +3,15 @@ use mathlib.Core.Path.{_≡_, refl, sym, ap, _∙_}
 use mathlib.Core.Logic.{_⊎_, ⊎-elim}
 use mathlib.Core.List.{List}
 use Prim.Native.Nat.{ℕ, zero, suc, _+_, _*_, _-_, _/_, _%_, _^_, _≤_, _<_}
-use native.Mathlib.Nat.{mod-lt, two-pow-succ, pow-succ', add-suc, add-zero, mul-one, pow-zero, add-assoc, mul-assoc, mul-comm, add-mul, le-of-suc-le, eq-or-lt-of-le, div-div-eq-div-mul}
-use native.Mathlib.Numerals.{add-one}
+use native.Mathlib.Nat.{mod-lt, two-pow-succ, pow-succ', add-suc, add-zero, add-assoc, mul-assoc, mul-comm, add-mul}
 use native.Mathlib.Omega.{arith}
 use lib.ListN.{length, getD}
-use lib.Pow.{high, low, pow-pos, pow-add, shr-shr, pow-mono}
+use lib.Pow.{high, low, pow-pos, pow-add, shr-shr}
 use mathlib.Core.Bool.{Bool, true, false}
 use lib.Dec.{leb}
 use borrow.Author.Tests.{le-leb, lt-leb, leb-true, leb-false}
 use Rattle.bits.specs.declared.Cursor.{Cursor}
 use Rattle.bits.specs.Field.{bitAt, numAt, fieldAt}
-use Rattle.bits.specs.declared.Got.{Got}
 use Rattle.bits.specs.declared.Got.the-variants.{Field, Short}
 
 pub bit-lt : (s : List ℕ) (i : ℕ) → bitAt s i < 2
@@ -100,10 +98,6 @@ num-bytes s i k h =
     let bits : (k + 1) * 8 ≡ k * 8 + 8 = omega arith in
     let place : i * 8 + k * 8 ≡ (i + k) * 8 = omega arith in
     rw (bits, num-join s (i * 8) (k * 8) 8, place, num-byte s (i + k) h) refl
-
--- a field is below its power
-pub num-below : (s : List ℕ) (at : ℕ) {w k : ℕ} → w ≤ k → numAt s at w < 2 ^ k
-num-below s at {w} {k} h = omega (arith, num-lt s at w, pow-mono h)
 
 pub field-here : (s : List ℕ) (at w : ℕ) → at + w ≤ length s * 8 → fieldAt s at w ≡ Field (numAt s at w) (record { at = at + w })
 unfolding fieldAt

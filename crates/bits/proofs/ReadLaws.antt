@@ -3,7 +3,7 @@ use mathlib.Core.Path.{_≡_, refl, sym, ap, _∙_}
 use mathlib.Core.Logic.{⊎-elim}
 use mathlib.Core.List.{List, [], _∷_, _++_}
 use mathlib.Core.Bool.{Bool, true, false}
-use Prim.Native.Nat.{ℕ, zero, suc, _+_, _*_, _-_, _^_, _≤_, _<_}
+use Prim.Native.Nat.{ℕ, zero, suc, _+_, _*_, _-_, _≤_, _<_}
 use native.Mathlib.Omega.{arith}
 use native.Mathlib.Nat.{eq-or-lt-of-le, le-of-suc-le-suc, mul-suc}
 use native.Mathlib.Numerals.{add-one}
@@ -92,3 +92,17 @@ upto-length read at (suc i) {xs} {b} h =
     sym (ap length (ok-is (x2 .3)))
     ∙ length-append (x1 .0) (x2 .0 ∷ [])
     ∙ omega (arith, upto-length read at i (x1 .2))
+
+-- two readings that agree step by step
+pub bind-both : {A B : Type 0} (x : Ans A) {y : Ans A} (f g : A → ℕ → Ans B) → y ≡ x → ((a : A) (next : ℕ) → x ≡ ok a next → g a next ≡ f a next)
+    → bind y g ≡ bind x f
+bind-both (ok a next) f g e h = rw e (h a next refl)
+bind-both (no r) f g e h = rw e refl
+
+pub upto-both : {A : Type 0} (read other : ℕ → Ans A) (w : ℕ) (step : (a : ℕ) (x : A) (b : ℕ) → read a ≡ ok x b → b ≤ a + w) (at i : ℕ)
+    → ((a : ℕ) → a ≤ at + w * i → other a ≡ read a) → upto other at i ≡ upto read at i
+unfolding upto
+upto-both read other w step at zero h = refl
+upto-both read other w step at (suc i) h =
+    bind-both (upto read at i) _ _ (upto-both read other w step at i (λ a l. h a (omega (arith, mul-suc w i)))) λ xs a e.
+    bind-both (read a) _ _ (h a (omega (arith, mul-suc w i, upto-next read w step at i e))) λ x b q. refl

@@ -13,9 +13,9 @@ use Rattle.answer.specs.declared.Refusal.the-variants as refuse
 use Rattle.answer.specs.declared.Found.{Found}
 use Rattle.answer.specs.declared.Found.the-variants.{At, Nothing}
 use Rattle.answer.specs.Lowest.{refuseAt}
-use Rattle.code.specs.Word.{JMPC, JMP, wordNo, decode, words}
+use Rattle.code.specs.Word.{JMPC, JMP, decode, words}
 use Rattle.code.specs.Check.{endFault, strays, faulty, unknown, firstFault, depthAt, landsOpen, firstLanding, checkCode}
-use Rattle.code.proofs.WordLaws.{words-length, named}
+use Rattle.code.proofs.WordLaws.{words-length}
 use Rattle.code.proofs.CheckLaws.{
   or-no,
   sound-from,
@@ -152,7 +152,3 @@ module _ (s : List ℕ) (p : Passed s) where
   depth-most (suc k) h =
       rw (depth-on 0 (map decode (words s)) k (omega (arith, length-map (words s) decode)), read-at (words s) k)
       (opens-eight (length (words s)) k (depthAt 0 (map decode (words s)) k) (decode (getD (words s) k 0)) (p .sound k (omega arith)) (depth-most k (omega arith)))
-
-  -- the number of each word is the number of the word it is read as
-  pub word-number : (k : ℕ) → k < length (words s) → wordNo (decode (getD (words s) k 0)) ≡ getD (words s) k 0
-  word-number k l = named (getD (words s) k 0) (p .known k l)

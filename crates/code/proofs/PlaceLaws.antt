@@ -1,5 +1,5 @@
 -- How large the place of refused code can be: it is that of one of 8,192 words. Assumes nothing.
-use mathlib.Core.Path.{_≡_, refl, ap}
+use mathlib.Core.Path.{_≡_, refl}
 use mathlib.Core.Bool.{Bool, true, false, _||_, cond}
 use mathlib.Core.List.{List, [], _∷_, map}
 use Prim.Native.Nat.{ℕ, suc, _+_, _≤_, _<_}
@@ -10,14 +10,14 @@ use Rattle.answer.specs.declared.Refusal.the-variants as refuse
 use Rattle.answer.specs.declared.Checked.{Checked}
 use Rattle.answer.specs.declared.Checked.the-variants.{Accepted, Refused}
 use Rattle.answer.specs.declared.Found.{Found}
-use Rattle.answer.specs.declared.Found.the-variants.{At, Nothing}
+use Rattle.answer.specs.declared.Found.the-variants.{At}
 use Rattle.answer.specs.Lowest.{refuseAt}
 use Rattle.answer.proofs.PlaceLaws.{at-is, nothing-at, found-fits}
 use Rattle.code.specs.Word.{Word, decode, words}
 use Rattle.code.specs.Check.{endFault, opens, faulty, unknown, hereOr, firstFault, landsOpen, firstLanding, checkCode}
 use Rattle.code.specs.Run.{ranBy, runCode}
 use Rattle.code.specs.declared.Record.{Record}
-use Rattle.code.proofs.PassedLaws.{Ended, end-good}
+use Rattle.code.proofs.PassedLaws.{end-good}
 
 -- found here or later, before word `end`
 here-below : (b : Bool) (pc end : ℕ) (later : Found) → pc < end → ((i : ℕ) → later ≡ At i → i < end) → (i : ℕ) → hereOr b pc later ≡ At i → i < end

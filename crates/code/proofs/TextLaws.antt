@@ -1,6 +1,5 @@
 -- Code made of words: its check and its run, without bytes. Assumes nothing.
 use mathlib.Core.Path.{_≡_, refl, _∙_}
-use mathlib.Core.Bool.{false}
 use mathlib.Core.List.{List, [], _∷_, _++_, map}
 use Prim.Native.Nat.{ℕ, suc, _+_, _-_, _*_, _≤_}
 use native.Mathlib.Omega.{arith}
@@ -26,11 +25,6 @@ pub among : (n pc d : ℕ) (is : List Word) → Fit is → firstFault n pc d (ma
 unfolding firstFault firstAmong
 among n pc d [] h = refl
 among n pc d (i ∷ is) h = rw (unknown-not i (h .0), decode-is i (h .0), among n (suc pc) (opens i d) is (h .1)) refl
-
--- a word without fault is passed by
-pub among-on : (n pc d : ℕ) (i : Word) (is : List Word) → faulty n pc d i ≡ false → firstAmong n pc d (i ∷ is) ≡ firstAmong n (suc pc) (opens i d) is
-unfolding firstAmong
-among-on n pc d i is e = rw e refl
 
 -- words that end with END end well
 pub ends-well : (xs : List Word) → length (xs ++ END ∷ []) ≤ 8192 → Ended (toBytes (xs ++ END ∷ []))

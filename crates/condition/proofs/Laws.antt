@@ -10,11 +10,11 @@ use borrow.Author.Tests.{leb-false, ltb-true, eq-eqb, ne-eqb}
 use Rattle.answer.specs.declared.Refusal.{Refusal}
 use Rattle.answer.specs.declared.Refusal.the-variants.{Short, InputNo, Big}
 use Rattle.bits.specs.Field.{fieldAt}
-use Rattle.bits.specs.Read.{Ans, ok, no, bind, guard, orShort, readField}
+use Rattle.bits.specs.Read.{Ans, ok, no, readField}
 use Rattle.bits.specs.declared.Cursor.{Cursor}
 use Rattle.bits.specs.declared.Got.the-variants as got
 use Rattle.bits.proofs.ReadLaws.{ok-next, ok-is, ok-no, bind-ok, guard-ok, field-read}
-use Rattle.condition.specs.Cond.{Cond, inp, neg, conj, disj, eval, wordCount}
+use Rattle.condition.specs.Cond.{Cond, inp, neg, eval, wordCount}
 use Rattle.condition.specs.Reading.{
   Counted,
   counted,
@@ -31,7 +31,6 @@ use Rattle.condition.specs.Reading.{
 }
 use Rattle.condition.specs.Joining.{negFacts, pickValue, joinFacts}
 use Rattle.condition.specs.declared.Facts.{Facts}
-use Rattle.condition.specs.declared.CondRead.{CondRead}
 use Rattle.condition.specs.declared.CondRead.the-variants.{Next, Bad}
 
 carry : (Q : Cond → ℕ → ℕ → Type 0) {x y : Counted} {a b : ℕ} → ok x a ≡ ok y b → Q (x .tree) (x .count) a → Q (y .tree) (y .count) b

@@ -4,8 +4,8 @@ use mathlib.Core.List.{List, [], _∷_}
 use Prim.Native.Nat.{ℕ}
 use Rattle.answer.specs.declared.Refusal.the-variants.{Short, InputNo, Big}
 use Rattle.bits.specs.Field.{fieldAt, numAt, bitAt}
-use Rattle.bits.specs.Read.{Ans, ok, no}
-use Rattle.condition.specs.Cond.{Cond, inp, neg, conj, disj}
+use Rattle.bits.specs.Read.{ok, no}
+use Rattle.condition.specs.Cond.{inp, neg, conj, disj}
 use Rattle.condition.specs.Reading.{counted, condAt, conditionAt, operandsAt, inputAt}
 
 unfoldable pub sheetM : ℕ → List ℕ

@@ -2,19 +2,15 @@
 use mathlib.Core.Path.{_≡_, refl, sym, ap, _∙_}
 use mathlib.Core.Bool.{Bool, true, false}
 use mathlib.Core.List.{List}
-use Prim.Native.Nat.{ℕ, _+_, _*_, _-_, _≤_, _<_, min}
+use Prim.Native.Nat.{ℕ, _*_, _-_, _≤_, min}
 use native.Mathlib.Omega.{arith}
 use borrow.Author.Tests.{leb-true, leb-false, le-leb, lt-leb}
 use lib.Dec.{leb}
 use lib.ListN.{length, replicate, length-replicate}
-use Rattle.answer.specs.declared.Checked.the-variants.{Accepted}
-use Rattle.bits.specs.Read.{ok}
 use Rattle.bits.proofs.ReadLaws.{ok-is}
 use Rattle.reader.specs.Sheet.{transitionOf}
-use Rattle.reader.specs.Reading.{readSheet}
 use Rattle.rules.proofs.Acceptance.{accepted-rules}
 use Rattle.rules.proofs.Counting.{homes-few, pairs-few, weighed}
-use Rattle.sheet.specs.Judging.{checkSheet}
 use Rattle.scan.specs.declared.Scanned.{Scanned}
 use Rattle.scan.specs.Scan.{scanOf, scanSheet}
 use Rattle.code.specs.Run.{runCode}

@@ -1,7 +1,7 @@
 -- Laws of reading a sheet: how far the cursor goes, and what the code's steps find. Assumes nothing.
 use mathlib.Core.Path.{_≡_, refl, sym, ap, _∙_}
-use mathlib.Core.List.{List, [], _∷_, _++_}
-use mathlib.Core.Bool.{Bool, true, false, not, _&&_}
+use mathlib.Core.List.{List, []}
+use mathlib.Core.Bool.{Bool, true, false, not}
 use Prim.Native.Nat.{ℕ, zero, suc, _+_, _*_, _-_, _/_, _%_, _^_, _≤_, _<_}
 use native.Mathlib.Numerals.{add-one}
 use native.Mathlib.Omega.{arith}
@@ -11,14 +11,14 @@ use borrow.Author.Tests.{eq-eqb, ne-eqb}
 use Rattle.answer.specs.declared.Refusal.{Refusal}
 use Rattle.answer.specs.declared.Refusal.the-variants as refuse
 use Rattle.bits.specs.Field.{fieldAt, numAt}
-use Rattle.bits.specs.Word.{bitNo, getBit, wordOf, bitsOf}
+use Rattle.bits.specs.Word.{wordOf, bitsOf}
 use Rattle.bits.specs.Read.{Ans, ok, no, bind, guard, readField, upto}
 use Rattle.bits.specs.declared.Cursor.{Cursor}
 use Rattle.bits.specs.declared.Got.the-variants as got
 use Rattle.bits.proofs.FieldLaws.{field-here}
 use Rattle.bits.proofs.WordLaws.{bit-no}
-use Rattle.bits.proofs.ReadLaws.{ok-next, ok-is, ok-no, bind-ok, guard-ok, field-read, upto-next, upto-length}
-use Rattle.condition.specs.Reading.{Counted, conditionAt}
+use Rattle.bits.proofs.ReadLaws.{bind-both, ok-next, ok-is, bind-ok, guard-ok, field-read, upto-next, upto-length}
+use Rattle.condition.specs.Reading.{conditionAt}
 use Rattle.condition.proofs.Laws.{cond-went}
 use Rattle.reader.specs.Sheet.{Transition, Sheet, count, noTransition}
 use Rattle.reader.specs.Reading.{readHeader, rowAt, transitionAt, endsAt, readSheet}
@@ -43,21 +43,17 @@ bind-bind : {A B C : Type 0} (x : Ans A) (f : A → ℕ → Ans B) (g : B → �
 bind-bind (ok a m) f g = refl
 bind-bind (no r) f g = refl
 
-bind-same : {A B : Type 0} (x : Ans A) (f g : A → ℕ → Ans B) → ((a : A) (m : ℕ) → f a m ≡ g a m) → bind x f ≡ bind x g
-bind-same (ok a m) f g h = h a m
-bind-same (no r) f g h = refl
-
 -- a transition is the states that it names, and the rest
 pub transition-is : (s : List ℕ) (n k at : ℕ) → transitionAt s n k at ≡ bind (namesAt s n at) (λ x a. restAt s k (x .source) (x .destination) a)
 unfolding transitionAt namesAt restAt
 transition-is s n k at =
     sym
     (bind-bind (readField s 5 at) _ _
-    ∙ bind-same (readField s 5 at) _ _ λ source a1.
+    ∙ bind-both (readField s 5 at) _ _ refl λ source a1 e1.
     bind-guard (ltb source n) (refuse.StateNo at) _ _
     ∙ ap (guard (ltb source n) (refuse.StateNo at))
     (bind-bind (readField s 5 a1) _ _
-    ∙ bind-same (readField s 5 a1) _ _ λ destination a2. bind-guard (ltb destination n) (refuse.StateNo a1) _ _))
+    ∙ bind-both (readField s 5 a1) _ _ refl λ destination a2 e2. bind-guard (ltb destination n) (refuse.StateNo a1) _ _))
 
 -- how far they go
 pub names-next : (s : List ℕ) (n at : ℕ) {x : Names} {next : ℕ} → namesAt s n at ≡ ok x next → next ≡ at + 10

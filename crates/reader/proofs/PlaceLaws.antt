@@ -1,20 +1,20 @@
 -- How large the place of a sheet that is refused in reading can be. Assumes nothing.
-use mathlib.Core.Path.{_≡_, refl}
-use mathlib.Core.Bool.{Bool, not}
+use mathlib.Core.Path.{_≡_}
+use mathlib.Core.Bool.{not}
 use mathlib.Core.List.{List}
-use Prim.Native.Nat.{ℕ, _+_, _*_, _≤_}
+use Prim.Native.Nat.{ℕ, _+_, _≤_}
 use native.Mathlib.Omega.{arith}
 use lib.Dec.{ltb, eqb}
 use Rattle.answer.specs.Number.{place}
 use Rattle.answer.specs.declared.Refusal.{Refusal}
 use Rattle.answer.specs.declared.Refusal.the-variants as refuse
-use Rattle.bits.specs.Read.{Ans, ok, no, readField, upto}
+use Rattle.bits.specs.Read.{no, readField, upto}
 use Rattle.bits.proofs.ReadLaws.{field-read}
 use Rattle.bits.proofs.PlaceLaws.{Within, ok-within, guard-within, bind-within, field-within, upto-within}
 use Rattle.condition.specs.Reading.{conditionAt}
 use Rattle.condition.proofs.PlaceLaws.{condition-within}
 use Rattle.reader.specs.Reading.{readHeader, rowAt, transitionAt, endsAt, readSheet}
-use Rattle.reader.proofs.Laws.{Headed, header-fits, row-next, transition-next, rows-next, transitions-next}
+use Rattle.reader.proofs.Laws.{header-fits, row-next, transition-next, rows-next, transitions-next}
 
 module _ (n : ℕ) (s : List ℕ) where
   header-within : 20 ≤ n → Within n (readHeader s)

@@ -1,5 +1,5 @@
 -- The C boundary's contracts admit a single outcome. Assumes nothing.
-use mathlib.Core.Path.{_≡_, sym, _∙_}
+use mathlib.Core.Path.{sym, _∙_}
 use Rattle.recorder.specs.Single.{SingleAtC}
 
 pub single-at-c : SingleAtC

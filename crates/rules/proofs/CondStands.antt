@@ -87,13 +87,6 @@ module _ (s : List ℕ) (k : ℕ) where
   unfolding condAt
   tag-read room seen at tag x y l e h few = rw (bits-read s at 2 tag l (subst (Stands s at) (sym e) h), lt-leb 31 seen few)
 
-  some-nodes : (t : Cond) → 0 < nodes t
-  unfolding nodes
-  some-nodes (inp i) = omega arith
-  some-nodes (neg c) = omega arith
-  some-nodes (conj a b) = omega arith
-  some-nodes (disj a b) = omega arith
-
   some-depth : (t : Cond) → 0 < depth t
   unfolding depth
   some-depth (inp i) = omega arith

@@ -1,38 +1,22 @@
 -- Reading looks at no bit from 32,768 on, so that the first 4,096 bytes of a longer byte string give its answer. Assumes nothing.
 use mathlib.Core.Path.{_≡_, refl, sym, ap, _∙_}
-use mathlib.Core.Bool.{Bool, true, false, not, _&&_}
+use mathlib.Core.Bool.{Bool, true, false, not}
 use mathlib.Core.List.{List}
-use Prim.Native.Nat.{ℕ, zero, suc, _+_, _*_, _-_, _/_, _%_, _^_, _≤_, _<_}
-use native.Mathlib.Nat.{mul-suc}
+use Prim.Native.Nat.{ℕ, zero, suc, _+_, _*_, _-_, _/_, _≤_, _<_}
 use native.Mathlib.Omega.{arith}
 use borrow.Author.Tests.{leb-true, leb-false, ne-eqb}
 use lib.Dec.{leb, ltb, eqb}
 use lib.ListN.{length, getD, take}
 use lib.Seq.{length-take-le, getD-take, take-all}
-use Rattle.answer.specs.declared.Refusal.{Refusal}
 use Rattle.answer.specs.declared.Refusal.the-variants as refuse
 use Rattle.bits.specs.Field.{bitAt, numAt}
-use Rattle.bits.specs.Read.{Ans, ok, no, bind, guard, readField, upto}
-use Rattle.bits.proofs.ReadLaws.{field-read, read-here, upto-next}
+use Rattle.bits.specs.Read.{ok, no, guard, readField, upto}
+use Rattle.bits.proofs.ReadLaws.{field-read, read-here, bind-both, upto-both}
 use Rattle.condition.specs.Reading.{Counted, inputAt, behind, operandsAt, nodeAt, condAt, conditionAt}
 use Rattle.condition.proofs.Laws.{cond-went}
 use Rattle.reader.specs.Reading.{readHeader, rowAt, transitionAt, endsAt, readSheet}
 use Rattle.reader.proofs.Laws.{header-fits, row-next, transition-next, rows-next, transitions-next}
 use Rattle.sheet.specs.Judging.{judgeRead, checkSheet}
-
--- two readings that agree step by step
-bind-both : {A B : Type 0} (x : Ans A) {y : Ans A} (f g : A → ℕ → Ans B) → y ≡ x → ((a : A) (next : ℕ) → x ≡ ok a next → g a next ≡ f a next)
-    → bind y g ≡ bind x f
-bind-both (ok a next) f g e h = rw e (h a next refl)
-bind-both (no r) f g e h = rw e refl
-
-upto-both : {A : Type 0} (read other : ℕ → Ans A) (w : ℕ) (step : (a : ℕ) (x : A) (b : ℕ) → read a ≡ ok x b → b ≤ a + w) (at i : ℕ)
-    → ((a : ℕ) → a ≤ at + w * i → other a ≡ read a) → upto other at i ≡ upto read at i
-unfolding upto
-upto-both read other w step at zero h = refl
-upto-both read other w step at (suc i) h =
-    bind-both (upto read at i) _ _ (upto-both read other w step at i (λ a l. h a (omega (arith, mul-suc w i)))) λ xs a e.
-    bind-both (read a) _ _ (h a (omega (arith, mul-suc w i, upto-next read w step at i e))) λ x b q. refl
 
 module _ (s t : List ℕ) (same : (i : ℕ) → i < 4096 → getD t i 0 ≡ getD s i 0) (long : 4096 < length s) (cut : length t ≡ 4096) where
   num-same : (at w : ℕ) → at + w ≤ 32768 → numAt t at w ≡ numAt s at w

@@ -2,8 +2,7 @@
 use Prim.Native.Nat.{ℕ, _≤_, _<_}
 use mathlib.Core.Path.{_≡_}
 use mathlib.Core.Logic.{_⊎_}
-use mathlib.Core.Bool.{Bool, true, false}
-use mathlib.Core.List.{List}
+use mathlib.Core.Bool.{true, false}
 use lib.ListN.{length, getD}
 use Rattle.condition.specs.Cond.{Cond, inp, neg, conj, disj, nodes, depth}
 use Rattle.reader.specs.Sheet.{Transition, Sheet, count, transitionOf, rowOf}

@@ -6,7 +6,6 @@ use Prim.Native.Nat.{ℕ}
 use native.Mathlib.Omega.{arith}
 use borrow.Author.Tests.{leb-true, leb-false, le-leb, lt-leb, eqb-true}
 use lib.Dec.{leb, eqb}
-use Rattle.condition.specs.Cond.{eval}
 use Rattle.reader.specs.Sheet.{Transition}
 use Rattle.scan.specs.Scan.{Choice, none, some, can, better, best}
 use Rattle.scan.proofs.AllLaws.{All}

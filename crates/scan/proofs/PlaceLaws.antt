@@ -1,5 +1,4 @@
 -- How large the place of a refused scan can be: the sheet's, or the state given, which is a byte. Assumes nothing.
-use mathlib.Core.Path.{_≡_, refl}
 use mathlib.Core.Bool.{Bool, true, false, cond}
 use mathlib.Core.List.{List}
 use Prim.Native.Nat.{ℕ, _≤_, _<_}
@@ -8,7 +7,7 @@ use lib.Dec.{ltb}
 use Rattle.answer.specs.Number.{placeOf}
 use Rattle.answer.specs.declared.Refusal.the-variants.{NoState}
 use Rattle.sheet.proofs.PlaceLaws.{with-holds}
-use Rattle.scan.specs.Scan.{scanOf, coldOf, accepted, refused, zeros, scanSheet, coldScan}
+use Rattle.scan.specs.Scan.{scanOf, accepted, refused, zeros, scanSheet, coldScan}
 use Rattle.scan.specs.declared.State.{State}
 use Rattle.scan.specs.declared.Scanned.{Scanned}
 

@@ -1,20 +1,20 @@
 -- Laws of a scan on a sheet that was opened. Assumes nothing.
-use mathlib.Core.Path.{_≡_, refl, sym, ap, _∙_, subst}
-use mathlib.Core.Bool.{Bool, true, false, cond}
+use mathlib.Core.Path.{_≡_, refl, sym, _∙_, subst}
+use mathlib.Core.Bool.{true}
 use mathlib.Core.List.{List}
 use Prim.Native.Nat.{ℕ, _≤_, _<_}
 use native.Mathlib.Omega.{arith}
 use borrow.Author.Tests.{lt-ltb, le-ltb}
-use lib.ListN.{length, getD}
+use lib.ListN.{getD}
 use Rattle.answer.specs.declared.Refusal.{Refusal}
 use Rattle.answer.specs.declared.Refusal.the-variants.{NoState}
-use Rattle.answer.specs.declared.Checked.the-variants.{Accepted, Refused}
+use Rattle.answer.specs.declared.Checked.the-variants.{Refused}
 use Rattle.bits.specs.Word.{wordOf}
-use Rattle.reader.specs.Sheet.{Transition, Sheet, count, rowOf, transitionOf, noTransition}
+use Rattle.reader.specs.Sheet.{Transition, rowOf, transitionOf}
 use Rattle.reader.specs.Packing.{lineAt}
 use Rattle.reader.specs.Decoding.{Holds}
 use Rattle.sheet.specs.Judging.{checkSheet}
-use Rattle.sheet.specs.Opening.{Good, Opens}
+use Rattle.sheet.specs.Opening.{Good}
 use Rattle.sheet.specs.declared.Opened.{Opened}
 use Rattle.sheet.proofs.WithLaws.{with-refused, with-accepted}
 use Rattle.rules.proofs.Fits.{Fits}

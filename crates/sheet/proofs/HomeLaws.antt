@@ -11,7 +11,6 @@ use Rattle.answer.specs.Lowest.{anyBelow, firstBelow}
 use Rattle.answer.specs.declared.Found.the-variants.{Nothing}
 use Rattle.answer.proofs.Laws.{first-same}
 use Rattle.bits.specs.Word.{getBit, putBit}
-use Rattle.reader.specs.declared.Line.{Line}
 use Rattle.reader.specs.Packing.{lineAt}
 use Rattle.sheet.specs.Lines.{homeLine, hasHome, Homes, lacksHomeLine, lacksBit}
 

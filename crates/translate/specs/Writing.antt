@@ -1,5 +1,5 @@
 -- What a translation answers and leaves in the buffer, and the runner's cold start.
-use mathlib.Core.Bool.{Bool, true, false, cond}
+use mathlib.Core.Bool.{cond}
 use mathlib.Core.List.{List}
 use Prim.Native.Nat.{ℕ}
 use lib.Dec.{leb}

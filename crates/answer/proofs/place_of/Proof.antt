@@ -1,8 +1,6 @@
 use borrow.Author.Needs.{needs}
 use Rattle.answer.proofs.place_of.Statement.{statement}
 use Rattle.answer.proofs.place_of.Tie as tie
-use Rattle.answer.proofs.place_of.Reads as reads
-use Rattle.answer.proofs.place_of.Lts as lts
 
 -- src/lib.rt:73:30
 enum-told : tie.Need-enum-told

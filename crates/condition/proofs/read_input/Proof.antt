@@ -8,10 +8,6 @@ use Rattle.condition.specs.Cond.{eval, wordCount}
 use Rattle.condition.specs.Reading.{inputAt, formOf}
 use Rattle.condition.proofs.read_input.Statement.{statement}
 use Rattle.condition.proofs.read_input.Tie as tie
-use Rattle.condition.proofs.read_input.Reads as reads
-use Rattle.condition.proofs.read_input.Lts as lts
-use Rattle.bits.proofs.field.Reads as field-reads
-use Rattle.bits.proofs.get_bit.Reads as get-bit-reads
 
 -- src/lib.rt:88:9
 field-requires : tie.Need-field-requires

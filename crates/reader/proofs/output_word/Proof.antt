@@ -1,6 +1,6 @@
 -- `reader::output_word` meets its contract. Assumes nothing.
-use mathlib.Core.Path.{_≡_, refl, sym, ap, _∙_}
-use Prim.Native.Nat.{ℕ, _+_, _*_, _-_, _/_, _%_, _^_, _≤_, _<_}
+use mathlib.Core.Path.{_≡_, refl, ap, _∙_}
+use Prim.Native.Nat.{ℕ, _-_, _/_, _^_, _≤_, _<_}
 use native.Mathlib.Omega.{arith}
 use lib.Pow.{pow-mono}
 use Rattle.bits.specs.Word.{wordOf, bitsOf}
@@ -8,8 +8,6 @@ use Rattle.bits.proofs.WordLaws.{bits-below}
 use Rattle.reader.proofs.Laws.{word-more}
 use Rattle.reader.proofs.output_word.Statement.{statement}
 use Rattle.reader.proofs.output_word.Tie as tie
-use Rattle.reader.proofs.output_word.Reads as reads
-use Rattle.reader.proofs.output_word.Lts as lts
 
 abbrev Inv-loop : tie.InvT-loop
 Inv-loop v width word₀ i₀ word i = (i ≤ width) × (word ≡ wordOf (bitsOf i v))

@@ -2,7 +2,6 @@
 use borrow.Author.Needs.{needs}
 use borrow.Author.Tests.{lt-ltb, le-ltb}
 use mathlib.Core.Path.{_≡_, sym, _∙_}
-use Prim.Native.Nat.{_+_, _<_, _^_}
 use native.Mathlib.Omega.{arith}
 use Rattle.bits.specs.Field.{fieldAt}
 use Rattle.bits.specs.declared.Got.the-variants as got

@@ -1,7 +1,6 @@
 -- `reader::read_rest` meets its contract. Assumes nothing.
 use borrow.Author.Needs.{needs}
 use mathlib.Core.Path.{_≡_, refl, sym, ap, _∙_}
-use Prim.Native.Nat.{_+_, _<_, _^_}
 use native.Mathlib.Omega.{arith}
 use Rattle.bits.specs.Field.{fieldAt}
 use Rattle.bits.specs.declared.Got.the-variants as got

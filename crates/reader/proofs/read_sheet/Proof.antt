@@ -3,11 +3,11 @@ use borrow.Author.Needs.{needs}
 use mathlib.Core.Path.{_≡_, refl, sym, ap, _∙_}
 use mathlib.Core.Bool.{Bool}
 use mathlib.Core.List.{List, []}
-use Prim.Native.Nat.{ℕ, _+_, _≤_, _<_}
+use Prim.Native.Nat.{ℕ, _≤_, _<_}
 use native.Mathlib.Omega.{arith}
 use lib.ListN.{length, getD}
 use Rattle.bits.specs.Word.{wordOf}
-use Rattle.bits.specs.Read.{ok, no, upto}
+use Rattle.bits.specs.Read.{ok, upto}
 use Rattle.bits.proofs.ReadLaws.{upto-length}
 use Rattle.reader.specs.Sheet.{Transition, noTransition}
 use Rattle.reader.specs.Reading.{readHeader, rowAt, transitionAt, readSheet}

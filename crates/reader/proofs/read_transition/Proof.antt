@@ -1,8 +1,8 @@
 -- `reader::read_transition` meets its contract. Assumes nothing.
 use borrow.Author.Needs.{needs}
-use mathlib.Core.Path.{_≡_, refl, sym, ap, _∙_}
+use mathlib.Core.Path.{_≡_, refl, sym, _∙_}
 use native.Mathlib.Omega.{arith}
-use Rattle.bits.specs.Read.{ok, no}
+use Rattle.bits.specs.Read.{ok}
 use Rattle.reader.specs.Decoding.{namesAt}
 use Rattle.reader.proofs.Laws.{transition-is, names-got, names-bad, names-next, names-few}
 use Rattle.reader.proofs.read_transition.Statement.{statement}

@@ -1,27 +1,19 @@
 -- `scan::choose` meets its contract. The invariant: the best of the transitions passed, joined with the best of the rest, is the best of all. Assumes nothing.
 use borrow.Author.Needs.{needs}
-use mathlib.Core.Path.{_≡_, refl, sym, ap, _∙_, subst}
+use mathlib.Core.Path.{_≡_, sym, _∙_, subst}
 use mathlib.Core.Logic.{⊎-elim}
-use mathlib.Core.List.{List, [], _∷_}
-use Prim.Native.Nat.{ℕ, suc, _+_, _-_, _≤_, _<_}
+use mathlib.Core.List.{List}
+use Prim.Native.Nat.{ℕ, _+_, _-_, _≤_, _<_}
 use native.Mathlib.Omega.{arith}
-use native.Mathlib.Numerals.{add-one}
-use lib.ListN.{length, getD, drop}
-use lib.Seq.{drop-cons}
+use lib.ListN.{length, getD}
 use Rattle.reader.specs.Sheet.{Transition, noTransition}
 use Rattle.reader.specs.Packing.{lineAt}
 use Rattle.reader.specs.Decoding.{Holds}
 use Rattle.reader.specs.declared.Line.{Line}
-use Rattle.scan.specs.Scan.{Choice, none, some, can, best}
-use Rattle.scan.specs.Picking.{Picks, tookOf}
-use Rattle.scan.proofs.ChoiceLaws.{merge}
+use Rattle.scan.specs.Scan.{can, best}
 use Rattle.scan.proofs.PickLaws.{Passed, passed-start, passed-fires, passed-stays, passed-end}
 use Rattle.scan.proofs.choose.Statement.{statement}
 use Rattle.scan.proofs.choose.Tie as tie
-use Rattle.scan.proofs.choose.Reads as reads
-use Rattle.scan.proofs.choose.Lts as lts
-use Rattle.scan.proofs.can_fire.Reads as can-fire-reads
-use Rattle.scan.proofs.took.Reads as took-reads
 
 abbrev Inv-loop : tie.InvT-loop
 Inv-loop s lines m k active word clock best₀ i₀ best i =

@@ -2,7 +2,6 @@
 use borrow.Author.Needs.{needs}
 use native.Mathlib.Omega.{arith}
 use Prim.Native.Nat.{_<_}
-use Rattle.scan.specs.Picking.{Inside}
 use Rattle.scan.proofs.moved.Statement.{statement}
 use Rattle.scan.proofs.moved.Tie as tie
 

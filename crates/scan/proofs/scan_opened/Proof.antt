@@ -1,14 +1,11 @@
 -- `scan::scan_opened` meets its contract. Assumes nothing.
 use borrow.Author.Needs.{needs}
-use mathlib.Core.Path.{_≡_, refl, sym, ap, _∙_}
-use Prim.Native.Nat.{ℕ, _≤_, _<_}
+use mathlib.Core.Path.{sym, ap, _∙_}
+use Prim.Native.Nat.{ℕ}
 use native.Mathlib.Omega.{arith}
-use Rattle.answer.specs.declared.Checked.the-variants.{Accepted, Refused}
-use Rattle.clock.specs.Onward.{onward}
 use Rattle.sheet.specs.Opening.{Good}
 use Rattle.scan.specs.Scan.{best, after, scanOf, accepted}
 use Rattle.scan.specs.Picking.{Picks}
-use Rattle.scan.specs.declared.State.{State}
 use Rattle.scan.proofs.ScanLaws.{scan-refused, scan-accepted, scan-no-state, fits, inside, moved-is, lines-hold}
 use Rattle.scan.proofs.scan_opened.Statement.{statement}
 use Rattle.scan.proofs.scan_opened.Tie as tie

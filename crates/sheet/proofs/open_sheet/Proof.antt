@@ -1,8 +1,7 @@
 -- `sheet::open_sheet` meets its contract. Assumes nothing.
 use borrow.Author.Needs.{needs}
-use mathlib.Core.Path.{_≡_, refl, sym, ap, _∙_}
+use mathlib.Core.Path.{_≡_, sym, _∙_}
 use native.Mathlib.Omega.{arith}
-use Prim.Native.Nat.{ℕ}
 use Rattle.bits.specs.Read.{ok}
 use Rattle.reader.specs.Sheet.{Sheet}
 use Rattle.reader.specs.Reading.{readSheet}
