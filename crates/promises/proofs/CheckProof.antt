@@ -16,11 +16,12 @@ use Rattle.condition.specs.Cond.{Cond, inp, neg, conj, disj, depth, wordCount}
 use Rattle.reader.specs.Sheet.{Transition, Sheet}
 use Rattle.rules.specs.Rules.{InputsBelow, Fields, Rules}
 use Rattle.scan.proofs.AllLaws.{All}
-use Rattle.code.specs.Word.{Word, END, LDI, NOT, ANDP, ORP, PAR, ANDT, R, S, JMPC, JMP, TRES, operand, wordNo, bytesOf, toBytes, words, codeNo}
-use Rattle.code.specs.Check.{endFault, opens, strays, faulty, hereOr, firstFault, depthAt, landsOpen, firstLanding, checkCode}
+use Rattle.words.specs.Word.{Word, END, LDI, NOT, ANDP, ORP, PAR, ANDT, R, S, JMPC, JMP, TRES, operand, wordNo, bytesOf, toBytes, words, codeNo}
+use Rattle.faults.specs.Check.{endFault, opens, strays, faulty, hereOr, firstFault, depthAt, landsOpen, firstLanding, checkCode}
 use Rattle.translate.specs.Translation.{condCode, waitCode, block, blocks, sort, waitCount, blockLen, blocksLen, rowCode, stateBlocks, stateAt, endAt, translate}
 use Rattle.translate.specs.Writing.{codeOf}
-use Rattle.code.proofs.WordLaws.{Fit, decode-is, unknown-not, words-to, decode-map, bytes-append, bytes-length}
+use Rattle.words.proofs.WordLaws.{Fit, decode-is, words-to, decode-map, bytes-append, bytes-length}
+use Rattle.faults.proofs.KnownLaws.{unknown-not}
 use Rattle.translate.proofs.LengthLaws.{cond-length, wait-length, blocks-length, AllLen, all-rows, state-length, states-length, sort-blocksLen, code-end}
 use Rattle.translate.proofs.SortLaws.{all-sort}
 use Rattle.translate.proofs.RoomLaws.{state-words}

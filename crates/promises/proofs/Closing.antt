@@ -13,7 +13,7 @@ use Rattle.rules.proofs.Acceptance.{accepted-rules}
 use Rattle.rules.proofs.Counting.{homes-few, pairs-few, weighed}
 use Rattle.scan.specs.declared.Scanned.{Scanned}
 use Rattle.scan.specs.Scan.{scanOf, scanSheet}
-use Rattle.code.specs.Run.{runCode}
+use Rattle.machine.specs.Run.{runCode}
 use Rattle.translate.specs.declared.Cold.{Cold}
 use Rattle.translate.specs.Writing.{Written, codeOf, translateInto}
 use Rattle.promises.specs.Same.{embed}

@@ -19,14 +19,14 @@ use Rattle.sheet.specs.Judging.{checkSheet}
 use Rattle.scan.specs.declared.State.{State}
 use Rattle.scan.specs.declared.Scanned.{Scanned}
 use Rattle.scan.specs.Scan.{scanOf, coldOf}
-use Rattle.code.specs.declared.Record.{Record}
-use Rattle.code.specs.declared.Ran.{Ran}
-use Rattle.code.specs.Machine.{Out}
-use Rattle.code.specs.Run.{runCode}
+use Rattle.machine.specs.declared.Record.{Record}
+use Rattle.machine.specs.declared.Ran.{Ran}
+use Rattle.machine.specs.Machine.{Out}
+use Rattle.machine.specs.Run.{runCode}
 use Rattle.translate.specs.declared.Cold.{Cold}
 use Rattle.translate.specs.Translation.{translate}
 use Rattle.translate.specs.Writing.{codeOf, writtenWith, translateInto, coldRecord}
-use Rattle.code.proofs.WordLaws.{decode-map}
+use Rattle.words.proofs.WordLaws.{decode-map}
 use Rattle.promises.specs.Same.{embed, Fits}
 use Rattle.promises.specs.Moves.{Moves, fires, stays}
 use Rattle.promises.specs.Length.{wordsOf}

@@ -8,7 +8,7 @@ use Rattle.condition.specs.Cond.{Cond, inp, neg, conj, disj}
 use Rattle.reader.specs.Sheet.{Transition, Sheet}
 use Rattle.rules.specs.Rules.{InputsBelow, Fields, Rules}
 use Rattle.scan.proofs.AllLaws.{All, all-of}
-use Rattle.code.specs.Word.{Word, END, LDS, LDI, NOT, ANDP, ORP, PAR, ANDT, R, S, RA, SA, JMPC, JMP, TRES}
+use Rattle.words.specs.Word.{Word, END, LDS, LDI, NOT, ANDP, ORP, PAR, ANDT, R, S, RA, SA, JMPC, JMP, TRES}
 use Rattle.translate.specs.Translation.{condCode, waitCode, block, blocks, sort, rowCode, stateBlocks, stateAt, endAt, translate}
 use Rattle.translate.proofs.LengthLaws.{AllLen, all-rows}
 use Rattle.translate.proofs.SortLaws.{all-sort}

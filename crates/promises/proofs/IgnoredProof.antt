@@ -16,13 +16,13 @@ use Rattle.sheet.specs.Judging.{checkSheet}
 use Rattle.scan.specs.declared.State.{State}
 use Rattle.scan.specs.Scan.{can, best, after, scanOf, scanSheet, refused}
 use Rattle.scan.proofs.AllLaws.{All}
-use Rattle.code.specs.declared.Record.{Record}
-use Rattle.code.specs.Word.{Word, END, LDS, LDI, NOT, ANDP, ORP, PAR, ANDT, R, S, RA, SA, JMPC, JMP, TRES}
-use Rattle.code.specs.Machine.{Out, Frame, andF, orF, join, exec, flagTo, outTo, withClock, runScan}
-use Rattle.code.specs.Run.{runCode}
+use Rattle.machine.specs.declared.Record.{Record}
+use Rattle.words.specs.Word.{Word, END, LDS, LDI, NOT, ANDP, ORP, PAR, ANDT, R, S, RA, SA, JMPC, JMP, TRES}
+use Rattle.machine.specs.Machine.{Out, Frame, andF, orF, join, exec, flagTo, outTo, withClock, runScan}
+use Rattle.machine.specs.Run.{runCode}
 use Rattle.translate.specs.Translation.{translate}
 use Rattle.translate.specs.Writing.{codeOf}
-use Rattle.code.proofs.WordLaws.{decode-map}
+use Rattle.words.proofs.WordLaws.{decode-map}
 use Rattle.promises.specs.Ignored.{Agree}
 use Rattle.promises.proofs.AcceptedLaws.{with-sheet}
 use Rattle.promises.proofs.CheckProof.{fit, code-words, check-code}

@@ -21,9 +21,9 @@ use Rattle.sheet.specs.Judging.{judge, checkSheet, judgedOr, readOr, withSheet}
 use Rattle.scan.specs.declared.State.{State}
 use Rattle.scan.specs.declared.Scanned.{Scanned}
 use Rattle.scan.specs.Scan.{accepted, refused, scanOf, coldOf, scanSheet, coldScan, zeros}
-use Rattle.code.specs.declared.Record.{Record}
-use Rattle.code.specs.Check.{checkCode}
-use Rattle.code.specs.Run.{ranBy, runCode}
+use Rattle.machine.specs.declared.Record.{Record}
+use Rattle.faults.specs.Check.{checkCode}
+use Rattle.machine.specs.Run.{ranBy, runCode}
 use Rattle.translate.specs.declared.Cold.{Cold}
 use Rattle.translate.specs.Writing.{Written, codeOf, unwritten, writtenWith, translateInto, coldRecord, noRecord, coldRun}
 use Rattle.promises.specs.Left.{Left}

@@ -13,9 +13,9 @@ use Rattle.condition.specs.Cond.{Cond, inp, neg, conj, disj, eval, wordCount}
 use Rattle.reader.specs.Sheet.{Transition}
 use Rattle.scan.specs.Scan.{Choice, none, some}
 use Rattle.scan.proofs.ChoiceLaws.{first}
-use Rattle.code.specs.declared.Record.{Record}
-use Rattle.code.specs.Word.{Word, END, NOT, ANDP, ORP, PAR, R, S, JMPC, JMP, TRES}
-use Rattle.code.specs.Machine.{Out, out, Frame, andF, orF, exec, flagTo, outTo, withOutputs, withClock}
+use Rattle.machine.specs.declared.Record.{Record}
+use Rattle.words.specs.Word.{Word, END, NOT, ANDP, ORP, PAR, R, S, JMPC, JMP, TRES}
+use Rattle.machine.specs.Machine.{Out, out, Frame, andF, orF, exec, flagTo, outTo, withOutputs, withClock}
 use Rattle.promises.specs.Same.{spent}
 use Rattle.translate.specs.Translation.{condCode, waitCode, block, blocks, waitCount, blockLen, blocksLen, rowCode, stateBlocks}
 use Rattle.translate.proofs.LengthLaws.{cond-length, wait-length, blocks-length, AllLen, row-length, state-length}

@@ -14,9 +14,9 @@ use Rattle.scan.specs.declared.State.{State}
 use Rattle.scan.specs.Scan.{Choice, none, some, can, best, outputsOf, after, scanOf}
 use Rattle.scan.proofs.AllLaws.{All, all-of}
 use Rattle.scan.proofs.ChoiceLaws.{OnChoice, first, can-source, best-on}
-use Rattle.code.specs.declared.Record.{Record}
-use Rattle.code.specs.Word.{Word, END, JMP}
-use Rattle.code.specs.Machine.{out, exec, runScan, withClock, withFlags, flagTo}
+use Rattle.machine.specs.declared.Record.{Record}
+use Rattle.words.specs.Word.{Word, END, JMP}
+use Rattle.machine.specs.Machine.{out, exec, runScan, withClock, withFlags, flagTo}
 use Rattle.translate.specs.Translation.{sort, blockLen, blocksLen, stateBlocks, stateAt, endAt, translate}
 use Rattle.translate.proofs.LengthLaws.{sort-blocksLen, states-length, all-rows}
 use Rattle.translate.proofs.SortLaws.{best-first}

@@ -19,12 +19,12 @@ use Rattle.sheet.specs.Table.{sheetM}
 use Rattle.scan.specs.declared.State.{State}
 use Rattle.scan.specs.declared.Scanned.{Scanned}
 use Rattle.scan.specs.Scan.{can, best, outputsOf, after, scanOf, coldOf, scanSheet, coldScan}
-use Rattle.code.specs.declared.Record.{Record}
-use Rattle.code.specs.Word.{codeNo, operand, wordNo, known, decode, bytesOf, toBytes, words}
-use Rattle.code.specs.Machine.{flagTo, outTo, exec, runScan}
-use Rattle.code.specs.Check.{endFault, opens, faulty, unknown, firstFault, depthAt, landsOpen, firstLanding, checkCode}
-use Rattle.code.specs.Run.{runCode}
-use Rattle.code.specs.Worked.{bytes, code11}
+use Rattle.machine.specs.declared.Record.{Record}
+use Rattle.words.specs.Word.{codeNo, operand, wordNo, known, decode, bytesOf, toBytes, words}
+use Rattle.machine.specs.Machine.{flagTo, outTo, exec, runScan}
+use Rattle.faults.specs.Check.{endFault, opens, faulty, unknown, firstFault, depthAt, landsOpen, firstLanding, checkCode}
+use Rattle.machine.specs.Run.{runCode}
+use Rattle.words.specs.Worked.{bytes, code11}
 use Rattle.translate.specs.declared.Cold.{Cold}
 use Rattle.translate.specs.Translation.{
   condCode,

@@ -21,12 +21,12 @@ use Rattle.sheet.specs.Judging.{clashes, lacksHome, judge, checkSheet, withShee
 use Rattle.sheet.specs.Table.{sheetM}
 use Rattle.scan.specs.declared.Scanned.{Scanned}
 use Rattle.scan.specs.Scan.{can, best, outputsOf, after, scanOf, coldOf, scanSheet, coldScan}
-use Rattle.code.specs.declared.Record.{Record}
-use Rattle.code.specs.Word.{END, codeNo, operand, wordNo, known, decode, bytesOf, toBytes, words}
-use Rattle.code.specs.Machine.{exec, runScan}
-use Rattle.code.specs.Check.{endFault, opens, faulty, unknown, firstFault, depthAt, landsOpen, firstLanding, checkCode}
-use Rattle.code.specs.Run.{runCode}
-use Rattle.code.specs.Worked.{bytes, code11}
+use Rattle.machine.specs.declared.Record.{Record}
+use Rattle.words.specs.Word.{END, codeNo, operand, wordNo, known, decode, bytesOf, toBytes, words}
+use Rattle.machine.specs.Machine.{exec, runScan}
+use Rattle.faults.specs.Check.{endFault, opens, faulty, unknown, firstFault, depthAt, landsOpen, firstLanding, checkCode}
+use Rattle.machine.specs.Run.{runCode}
+use Rattle.words.specs.Worked.{bytes, code11}
 use Rattle.translate.specs.Writing.{Written, codeOf, translateInto, coldRecord, coldRun}
 use Rattle.promises.specs.Length.{wordsOf}
 use Rattle.promises.specs.Demand3.{Tick, Translator, Runner, refAfter, runAfter, sinceChange, codeIn, Follows, Demand3}

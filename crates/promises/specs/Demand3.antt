@@ -14,9 +14,9 @@ use Rattle.reader.specs.Reading.{readSheet}
 use Rattle.sheet.specs.Judging.{checkSheet}
 use Rattle.scan.specs.declared.State.{State}
 use Rattle.scan.specs.Scan.{outputsOf, scanSheet, coldScan}
-use Rattle.code.specs.declared.Record.{Record}
-use Rattle.code.specs.declared.Ran.{Ran}
-use Rattle.code.specs.Check.{checkCode}
+use Rattle.machine.specs.declared.Record.{Record}
+use Rattle.machine.specs.declared.Ran.{Ran}
+use Rattle.faults.specs.Check.{checkCode}
 use Rattle.translate.specs.Writing.{Written, coldRun}
 use Rattle.promises.specs.Same.{embed}
 use Rattle.promises.specs.Length.{wordsOf}

@@ -13,7 +13,7 @@ use Rattle.reader.specs.Reading.{readSheet}
 use Rattle.sheet.specs.Judging.{checkSheet}
 use Rattle.scan.specs.declared.State.{State}
 use Rattle.scan.specs.Scan.{outputsOf, scanSheet}
-use Rattle.code.specs.Run.{runCode}
+use Rattle.machine.specs.Run.{runCode}
 use Rattle.translate.specs.Writing.{codeOf}
 use Rattle.promises.specs.Same.{embed, Fits}
 

@@ -7,8 +7,8 @@ use Rattle.clock.specs.Onward.{onward}
 use Rattle.reader.specs.Sheet.{Transition, Sheet}
 use Rattle.scan.specs.declared.State.{State}
 use Rattle.scan.specs.Scan.{Choice, none, some, can, best, scanOf}
-use Rattle.code.specs.declared.Record.{Record}
-use Rattle.code.specs.Machine.{out, runScan}
+use Rattle.machine.specs.declared.Record.{Record}
+use Rattle.machine.specs.Machine.{out, runScan}
 use Rattle.translate.specs.Translation.{sort, blockLen, translate}
 
 -- "The runner's record is a flag word (flag s has weight 2^s), an output word (output a has weight 2^a) and the clock; the reference scan's

@@ -17,9 +17,9 @@ use Rattle.sheet.specs.Table as sheets
 use Rattle.sheet.specs.Table.{sheetM}
 use Rattle.scan.specs.declared.State.{State}
 use Rattle.scan.specs.Scan.{scanSheet, coldScan}
-use Rattle.code.specs.declared.Record.{Record}
-use Rattle.code.specs.Worked.{bytes, code11}
-use Rattle.code.specs.Run.{runCode}
+use Rattle.machine.specs.declared.Record.{Record}
+use Rattle.words.specs.Worked.{bytes, code11}
+use Rattle.machine.specs.Run.{runCode}
 use Rattle.translate.specs.Translation.{translate}
 use Rattle.translate.specs.Writing.{codeOf, translateInto, coldRun}
 use Rattle.promises.specs.Demand3.{Tick}

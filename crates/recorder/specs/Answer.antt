@@ -5,7 +5,7 @@ use mathlib.Core.List.{List}
 use Rattle.answer.specs.declared.Checked.{Checked}
 use Rattle.answer.specs.Number.{numberOf, placeOf}
 use Rattle.scan.specs.declared.State.{State}
-use Rattle.code.specs.declared.Record.{Record}
+use Rattle.machine.specs.declared.Record.{Record}
 use Rattle.translate.specs.Writing.{Written}
 
 -- the record behind the pointers, for the reference and for the runner

@@ -5,7 +5,7 @@ use mathlib.Core.Path.{_≡_}
 use mathlib.Core.List.{List}
 use Rattle.answer.specs.declared.Checked.{Checked}
 use Rattle.scan.specs.declared.State.{State}
-use Rattle.code.specs.declared.Record.{Record}
+use Rattle.machine.specs.declared.Record.{Record}
 use Rattle.translate.specs.Writing.{Written}
 use Rattle.recorder.specs.Answer.{Told, CodeLeft, StateLeft, RecordLeft}
 

@@ -1,13 +1,13 @@
 // The C boundary: each call answers with plain numbers, and settles what stands behind each pointer.
 use answer::Checked;
-use code::Record;
+use machine::Record;
 use scan::State;
 ghost use Prim.Native.Nat.{_≤_};
 ghost use Rattle.answer.specs.Number.{placeOf};
 ghost use Rattle.sheet.specs.Judging.{checkSheet};
 ghost use Rattle.scan.specs.Scan.{scanSheet, coldScan};
-ghost use Rattle.code.specs.Check.{checkCode};
-ghost use Rattle.code.specs.Run.{runCode};
+ghost use Rattle.faults.specs.Check.{checkCode};
+ghost use Rattle.machine.specs.Run.{runCode};
 ghost use Rattle.translate.specs.Writing.{translateInto, coldRun};
 ghost use Rattle.recorder.specs.Answer.{stateOf, recordOf, Told, CodeLeft, StateLeft, RecordLeft};
 
@@ -33,7 +33,7 @@ pub extern "C" fn chz_check_sheet(sheet: &[u8], place: &mut u32) -> u32
 pub extern "C" fn chz_check_code(code: &[u8], place: &mut u32) -> u32
     ensures { λ r. ⌜ Told (checkCode (now (code .entry))) r (now (place .exit)) ⌝ }
 {
-    answered(code::check_code(code), place)
+    answered(faults::check_code(code), place)
 }
 
 // Writes the code of a sheet.
@@ -142,7 +142,7 @@ pub extern "C" fn chz_run(
         outputs: *outputs,
         clock: *clock,
     };
-    let ran = code::run(code, given, inputs, elapsed);
+    let ran = machine::run(code, given, inputs, elapsed);
     let after = ran.record;
     *flags = after.flags;
     *outputs = after.outputs;

@@ -11,8 +11,8 @@ use Rattle.answer.specs.declared.Checked.the-variants.{Accepted, Refused}
 use Rattle.reader.specs.Sheet.{Sheet}
 use Rattle.sheet.specs.Judging.{withSheet}
 use Rattle.scan.specs.Scan.{outputsOf}
-use Rattle.code.specs.Word.{toBytes}
-use Rattle.code.specs.declared.Record.{Record}
+use Rattle.words.specs.Word.{toBytes}
+use Rattle.machine.specs.declared.Record.{Record}
 use Rattle.translate.specs.Translation.{translate}
 use Rattle.translate.specs.declared.Translated.{Translated}
 use Rattle.translate.specs.declared.Cold.{Cold}

@@ -6,7 +6,7 @@ use native.Mathlib.Omega.{arith}
 use borrow.Author.Needs.{needs}
 use Rattle.answer.specs.Number.{placeOf}
 use Rattle.answer.specs.declared.Checked.{Checked}
-use Rattle.code.proofs.PlaceLaws.{place-fits}
+use Rattle.faults.proofs.PlaceLaws.{place-fits}
 use Rattle.recorder.specs.Answer.{Told}
 use Rattle.recorder.proofs.chz_check_code.Statement.{statement}
 use Rattle.recorder.proofs.chz_check_code.Tie as tie

@@ -5,8 +5,8 @@ use denote.Ref.{now}
 use native.Mathlib.Omega.{arith}
 use borrow.Author.Needs.{needs}
 use Rattle.answer.specs.Number.{placeOf}
-use Rattle.code.specs.declared.Ran.{Ran}
-use Rattle.code.proofs.PlaceLaws.{run-place-fits}
+use Rattle.machine.specs.declared.Ran.{Ran}
+use Rattle.machine.proofs.PlaceLaws.{run-place-fits}
 use Rattle.recorder.specs.Answer.{recordOf, Told}
 use Rattle.recorder.proofs.chz_run.Statement.{statement}
 use Rattle.recorder.proofs.chz_run.Tie as tie
