@@ -11,8 +11,8 @@ use Rattle.reader.specs.Sheet.{Transition, Sheet, transitionOf}
 use Rattle.rules.specs.Rules.{Gated, HomeForm, Rules}
 use Rattle.scan.specs.declared.State.{State}
 use Rattle.scan.specs.Scan.{scanOf}
-use Rattle.promises.specs.Moves.{CanFire, Moves, fires, stays}
-use Rattle.promises.proofs.MovesProof.{same-rank, moves-scan}
+use Rattle.moves.specs.Moves.{CanFire, Moves, fires, stays}
+use Rattle.moves.proofs.MovesProof.{same-rank, moves-scan}
 
 -- a gated condition fails
 gate-off : (x : ℕ) (c : Cond) → getBit x 0 ≡ false → Gated c → eval x c ≡ false

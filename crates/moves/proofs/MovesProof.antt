@@ -13,7 +13,7 @@ use Rattle.rules.specs.Rules.{Rules}
 use Rattle.scan.specs.declared.State.{State}
 use Rattle.scan.specs.Scan.{Choice, none, some, can, best, after, scanOf}
 use Rattle.scan.proofs.BestLaws.{Chosen, BestIs, best-is}
-use Rattle.promises.specs.Moves.{Of, CanFire, Moves, fires, stays}
+use Rattle.moves.specs.Moves.{Of, CanFire, Moves, fires, stays}
 
 both : (a b : Bool) → a && b ≡ true → (a ≡ true) × (b ≡ true)
 both true b e = (refl, e)

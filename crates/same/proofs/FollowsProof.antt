@@ -1,4 +1,4 @@
--- Demand 3, for a sheet that keeps the rules.
+-- What holds after any scans, for a sheet that keeps the rules. Assumes nothing.
 use mathlib.Core.Path.{_≡_, refl, sym, ap, _∙_}
 use mathlib.Core.Bool.{cond}
 use mathlib.Core.List.{List, [], _∷_}
@@ -22,21 +22,19 @@ use Rattle.scan.specs.Scan.{scanOf, coldOf}
 use Rattle.machine.specs.declared.Record.{Record}
 use Rattle.machine.specs.declared.Ran.{Ran}
 use Rattle.machine.specs.Machine.{Out}
-use Rattle.machine.specs.Run.{runCode}
+use Rattle.machine.specs.Run.{recordOf, runCode}
 use Rattle.translate.specs.declared.Cold.{Cold}
 use Rattle.translate.specs.Translation.{translate}
-use Rattle.translate.specs.Writing.{codeOf, writtenWith, translateInto, coldRecord}
+use Rattle.translate.specs.Writing.{codeOf, coldRecord}
 use Rattle.words.proofs.WordLaws.{decode-map}
-use Rattle.promises.specs.Same.{embed, Fits}
-use Rattle.promises.specs.Moves.{Moves, fires, stays}
-use Rattle.promises.specs.Length.{wordsOf}
-use Rattle.promises.specs.Demand3.{Tick, refAfter, runAfter, sinceChange, codeIn, Follows}
-use Rattle.promises.proofs.AcceptedLaws.{scan-is, cold-scan-is, cold-run-is, translate-is, written-code}
-use Rattle.promises.proofs.CheckProof.{fit, code-words, check-code}
-use Rattle.promises.proofs.HomeProof.{off-home}
-use Rattle.promises.proofs.LengthProof.{bytes-are}
-use Rattle.promises.proofs.MovesProof.{moves-scan}
-use Rattle.promises.proofs.SameProof.{Shows, shows-fits, scan-same, scan-shows}
+use Rattle.same.specs.Same.{embed, Fits}
+use Rattle.moves.specs.Moves.{Moves, fires, stays}
+use Rattle.same.specs.Histories.{Tick, refAfter, runAfter, sinceChange, Follows}
+use Rattle.same.proofs.AcceptedLaws.{scan-is, cold-scan-is, cold-run-is}
+use Rattle.same.proofs.CheckProof.{fit, code-words, check-code}
+use Rattle.moves.proofs.HomeProof.{off-home}
+use Rattle.moves.proofs.MovesProof.{moves-scan}
+use Rattle.same.proofs.SameProof.{Shows, shows-fits, scan-same, scan-shows}
 
 module _ (a : Sheet) (rules : Rules a) where
   -- a scan of the code's bytes
@@ -44,7 +42,7 @@ module _ (a : Sheet) (rules : Rules a) where
   unfolding runCode
   run-is q g x e =
       rw (check-code a rules, code-words a rules, decode-map (translate a) (fit a rules))
-      (ap (λ (o : Out). record { verdict = Accepted; «record» = o .rec }) (scan-same a rules q g x e))
+      (ap (λ (o : Out). record { verdict = Accepted; «record» = recordOf (o .mach) }) (scan-same a rules q g x e))
 
   -- a scan changes the state or adds to the clock
   clock-step : (q p : State) (x e since : ℕ) → q .clock ≡ min since 16777215 → Moves a q x (onward (q .clock) e) p
@@ -135,12 +133,3 @@ module _ (a : Sheet) (rules : Rules a) where
           home = λ t off. ap (λ (r : Record). r .flags) (next-run ticks t (h .good) (h .same))
               ∙ ap (λ n. 2 ^ n) (off-home a rules (refAfter s ticks) (h .good .active) (t .word) (t .elapsed) off);
         }
-
-    -- with room the translator accepts, and what it leaves in the buffer is the code
-    pub with-room : (buffer : List ℕ) → 4 * wordsOf a ≤ length buffer → translateInto s buffer ≡ writtenWith buffer (codeOf a)
-    with-room buffer h =
-        translate-is s a end read acc buffer
-        ∙ rw (le-leb (length (codeOf a)) (length buffer) (omega (arith, bytes-are a rules))) refl
-
-    pub code-in : (buffer : List ℕ) → 4 * wordsOf a ≤ length buffer → codeIn (translateInto s buffer) ≡ codeOf a
-    code-in buffer h = ap codeIn (with-room buffer h) ∙ written-code buffer (codeOf a) (omega (arith, bytes-are a rules))

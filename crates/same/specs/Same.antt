@@ -9,12 +9,13 @@ use Rattle.scan.specs.declared.State.{State}
 use Rattle.scan.specs.Scan.{Choice, none, some, can, best, scanOf}
 use Rattle.machine.specs.declared.Record.{Record}
 use Rattle.machine.specs.Machine.{out, runScan}
+use Rattle.machine.specs.Run.{recordWith, machOf}
 use Rattle.translate.specs.Translation.{sort, blockLen, translate}
 
 -- "The runner's record is a flag word (flag s has weight 2^s), an output word (output a has weight 2^a) and the clock; the reference scan's
 -- has the state's number for the flag word": the runner's record of a reference record has the active state's flag alone
 unfoldable pub embed : State → Record
-embed q = record { flags = 2 ^ q .state; outputs = q .outputs; clock = q .clock }
+embed q = recordWith (2 ^ q .state) (q .outputs) (q .clock)
 
 -- a reference record that fits the sheet: a state that there is, and outputs below l alone
 pub record Fits (a : Sheet) (q : State) : Type 0 where
@@ -40,4 +41,5 @@ executed a q word elapsed =
 abbrev pub Same : Sheet → Type 0
 Same a =
     (q : State) → Fits a q → (word elapsed : ℕ)
-    → runScan (translate a) (embed q) word elapsed ≡ out (embed (scanOf a q word elapsed)) (executed a q word elapsed)
+    → runScan (translate a) (machOf (embed q)) word elapsed
+    ≡ out (machOf (embed (scanOf a q word elapsed))) (executed a q word elapsed)
