@@ -27,7 +27,7 @@ use Rattle.machine.specs.Run.{ranBy, runCode}
 use Rattle.translate.specs.declared.Cold.{Cold}
 use Rattle.translate.specs.Writing.{Written, codeOf, unwritten, writtenWith, translateInto, coldRecord, noRecord, coldRun}
 use Rattle.promises.specs.Left.{Left}
-use Rattle.promises.proofs.AcceptedLaws.{accepted-refused, refused-is}
+use Rattle.same.proofs.AcceptedLaws.{accepted-refused, refused-is}
 
 -- A call goes on with an accepted sheet, or refuses with the check's refusal.
 data Called {B : Type 0} (s : List ℕ) (refuse : Refusal → B) (go : Sheet → B) (b : B) : Type 0 where

@@ -29,10 +29,11 @@ use Rattle.machine.specs.Run.{runCode}
 use Rattle.words.specs.Worked.{bytes, code11}
 use Rattle.translate.specs.Writing.{Written, codeOf, translateInto, coldRecord, coldRun}
 use Rattle.promises.specs.Length.{wordsOf}
-use Rattle.promises.specs.Demand3.{Tick, Translator, Runner, refAfter, runAfter, sinceChange, codeIn, Follows, Demand3}
+use Rattle.same.specs.Histories.{Tick, Runner, refAfter, runAfter, sinceChange, Follows}
+use Rattle.promises.specs.Demand3.{Translator, codeIn, Demand3}
 use Rattle.promises.specs.Table.{twoContact, twoRows, twoArcs, twoSheet, brings, flag, state}
 use Rattle.promises.specs.Worthless.{WritesEnd, WritesNothing, HandsBack, RightAtFirst, Worthless}
-use Rattle.promises.proofs.AcceptedLaws.{accepted-refused}
+use Rattle.same.proofs.AcceptedLaws.{accepted-refused}
 use Rattle.promises.proofs.TableProof.{two-read, two-accepted, two-checked, two-scan, cold-state, cold-flag, table}
 
 -- the checkers
