@@ -19,9 +19,13 @@ machOf r = machWith (r .flags) (r .outputs) (r .clock)
 abbrev pub recordOf : Mach → Record
 recordOf m = recordWith (m .flags) (m .outputs) (m .clock)
 
+-- a scan's answer
+abbrev pub ranWith : Checked → Record → Ran
+ranWith verdict r = record { verdict = verdict; «record» = r }
+
 abbrev pub ranBy : Checked → List ℕ → Record → ℕ → ℕ → Ran
-ranBy Accepted s r x elapsed = record { verdict = Accepted; «record» = recordOf (runScan (map decode (words s)) (machOf r) x elapsed .mach) }
-ranBy (Refused why) s r x elapsed = record { verdict = Refused why; «record» = r }
+ranBy Accepted s r x elapsed = ranWith Accepted (recordOf (runScan (map decode (words s)) (machOf r) x elapsed .mach))
+ranBy (Refused why) s r x elapsed = ranWith (Refused why) r
 
 -- "A refused scan returns the record it was given"; x is the input word
 unfoldable pub runCode : List ℕ → Record → ℕ → ℕ → Ran

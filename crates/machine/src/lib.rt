@@ -10,7 +10,7 @@ ghost use Rattle.bits.specs.Word.{putBit};
 ghost use Rattle.words.specs.Word.{known, decode, words};
 ghost use Rattle.faults.specs.Check.{checkCode};
 ghost use Rattle.machine.specs.Machine.{Frame, withClock, flagTo, outTo, exec};
-ghost use Rattle.machine.specs.Run.{recordWith, machOf, recordOf, runCode};
+ghost use Rattle.machine.specs.Run.{recordWith, ranWith, machOf, recordOf, runCode};
 ghost use Rattle.machine.specs.inside.Midway.{midway, machIn, joinTop, enc, Executable, Executes};
 
 // What a scan is given and hands back: flag s has weight 2^s, output a has weight 2^a.
@@ -24,6 +24,26 @@ pub struct Record {
 pub struct Ran {
     pub verdict: Checked,
     pub record: Record,
+}
+
+// The one builder of a record, and of a scan's answer.
+pub fn record_with(flags: u32, outputs: u16, clock: u32) -> Record
+    ensures { λ r. ⌜ r ≡ recordWith flags outputs clock ⌝ }
+{
+    Record {
+        flags: flags,
+        outputs: outputs,
+        clock: clock,
+    }
+}
+
+fn ran_with(verdict: Checked, record: Record) -> Ran
+    ensures { λ r. ⌜ r ≡ ranWith verdict «record» ⌝ }
+{
+    Ran {
+        verdict: verdict,
+        record: record,
+    }
 }
 
 // The machine between two words. What is put aside stands in base 4, the last one in the lowest digit: 2 for AND(, 1 for a true result.
@@ -181,11 +201,7 @@ fn execute(code: &[u8], inputs: u16, given: Record) -> Record
         let at = m.at;
         let op = words::code_byte(code, at);
         if op == 0 {
-            return Record {
-                flags: m.flags,
-                outputs: m.outputs,
-                clock: m.clock,
-            };
+            return record_with(m.flags, m.outputs, m.clock);
         }
         let arg = words::operand(code, at);
         m = step(m, op, arg, inputs);
@@ -199,20 +215,11 @@ pub fn run(code: &[u8], given: Record, inputs: u16, elapsed: u32) -> Ran
     let verdict = faults::check_code(code);
     match verdict {
         Checked::Accepted => {
-            let begun = Record {
-                flags: given.flags,
-                outputs: given.outputs,
-                clock: clock::bring_forward(given.clock, elapsed),
-            };
+            let forward = clock::bring_forward(given.clock, elapsed);
+            let begun = record_with(given.flags, given.outputs, forward);
             let after = execute(code, inputs, begun);
-            Ran {
-                verdict: Checked::Accepted,
-                record: after,
-            }
+            ran_with(Checked::Accepted, after)
         }
-        Checked::Refused(why) => Ran {
-            verdict: Checked::Refused(why),
-            record: given,
-        },
+        Checked::Refused(why) => ran_with(Checked::Refused(why), given),
     }
 }

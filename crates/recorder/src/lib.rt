@@ -1,15 +1,14 @@
 // The C boundary: each call answers with plain numbers, and settles what stands behind each pointer.
 use answer::Checked;
-use machine::Record;
 use scan::State;
 ghost use Prim.Native.Nat.{_≤_};
 ghost use Rattle.answer.specs.Number.{placeOf};
 ghost use Rattle.sheet.specs.Judging.{checkSheet};
 ghost use Rattle.scan.specs.Scan.{scanSheet, coldScan};
 ghost use Rattle.faults.specs.Check.{checkCode};
-ghost use Rattle.machine.specs.Run.{runCode};
+ghost use Rattle.machine.specs.Run.{recordWith, runCode};
 ghost use Rattle.translate.specs.Writing.{translateInto, coldRun};
-ghost use Rattle.recorder.specs.Answer.{stateOf, recordOf, Told, CodeLeft, StateLeft, RecordLeft};
+ghost use Rattle.recorder.specs.Answer.{stateOf, Told, CodeLeft, StateLeft, RecordLeft};
 
 // The number, and the place behind its pointer: no place needs more than 32 bits.
 fn answered(verdict: Checked, place: &mut u32) -> u32
@@ -134,14 +133,10 @@ pub extern "C" fn chz_run(
     elapsed: u32,
     place: &mut u32,
 ) -> u32
-    ensures told { λ r. ⌜ Told (runCode (now (code .entry)) (recordOf (now (flags .entry)) (now (outputs .entry)) (now (clock .entry))) inputs elapsed .verdict) r (now (place .exit)) ⌝ }
-    ensures left { λ r. ⌜ RecordLeft (runCode (now (code .entry)) (recordOf (now (flags .entry)) (now (outputs .entry)) (now (clock .entry))) inputs elapsed .«record») (now (flags .exit)) (now (outputs .exit)) (now (clock .exit)) ⌝ }
+    ensures told { λ r. ⌜ Told (runCode (now (code .entry)) (recordWith (now (flags .entry)) (now (outputs .entry)) (now (clock .entry))) inputs elapsed .verdict) r (now (place .exit)) ⌝ }
+    ensures left { λ r. ⌜ RecordLeft (runCode (now (code .entry)) (recordWith (now (flags .entry)) (now (outputs .entry)) (now (clock .entry))) inputs elapsed .«record») (now (flags .exit)) (now (outputs .exit)) (now (clock .exit)) ⌝ }
 {
-    let given = Record {
-        flags: *flags,
-        outputs: *outputs,
-        clock: *clock,
-    };
+    let given = machine::record_with(*flags, *outputs, *clock);
     let ran = machine::run(code, given, inputs, elapsed);
     let after = ran.record;
     *flags = after.flags;

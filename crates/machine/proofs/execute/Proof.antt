@@ -52,14 +52,17 @@ code-byte-requires c κs =
     let p = accepted (now (c .before .before .args .code)) (c .before .before .pre) in
     omega (arith, c .loop .inv .inside, p .ended .whole)
 
+record-with-requires : tie.Need-record-with-requires Inv-loop μ-loop
+record-with-requires c κs = tt
+
 returns : tie.Need-returns Inv-loop μ-loop
 unfolding decode known
 returns c =
-    let a = c .before .before .before .before .args in
-    let l = c .before .before .loop in
-    let op : getD (words (now (a .code))) (l .m .at) 0 / 16777216 ≡ 0 = sym (c .before .code-byte .ensures .0) ∙ c .if1 .taken in
+    let a = c .before .before .before .before .before .args in
+    let l = c .before .before .before .loop in
+    let op : getD (words (now (a .code))) (l .m .at) 0 / 16777216 ≡ 0 = sym (c .before .before .code-byte .ensures .0) ∙ c .before .if1 .taken in
     let whole = exec (a .inputs) 0 (map decode (words (now (a .code)))) 0 (machOf (a .given)) false [] 0 in
-    ap recordOf (going-end (now (a .code)) (a .inputs) whole (l .m) (l .inv) (rw op refl))
+    c .record-with .ensures ∙ ap recordOf (going-end (now (a .code)) (a .inputs) whole (l .m) (l .inv) (rw op refl))
 
 operand-requires : tie.Need-operand-requires Inv-loop μ-loop
 operand-requires c κs =
@@ -99,6 +102,7 @@ execute-spec =
     μ-loop
     loop-holds
     code-byte-requires
+    record-with-requires
     returns
     operand-requires
     step-requires

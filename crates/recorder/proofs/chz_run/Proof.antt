@@ -6,8 +6,9 @@ use native.Mathlib.Omega.{arith}
 use borrow.Author.Needs.{needs}
 use Rattle.answer.specs.Number.{placeOf}
 use Rattle.machine.specs.declared.Ran.{Ran}
+use Rattle.machine.specs.Run.{recordWith}
 use Rattle.machine.proofs.PlaceLaws.{run-place-fits}
-use Rattle.recorder.specs.Answer.{recordOf, Told}
+use Rattle.recorder.specs.Answer.{Told}
 use Rattle.recorder.proofs.chz_run.Statement.{statement}
 use Rattle.recorder.proofs.chz_run.Tie as tie
 
@@ -18,7 +19,7 @@ answered-requires : tie.Need-answered-requires
 answered-requires c κs =
     let t = c .before .before .before .before .before .before .before .args in
     subst (λ (x : Ran). placeOf (x .verdict) ≤ 40000) (sym (c .before .before .run .ensures))
-    (omega (arith, run-place-fits (now (t .code)) (recordOf (now (t .flags)) (now (t .outputs)) (now (t .clock))) (t .inputs) (t .elapsed)))
+    (omega (arith, run-place-fits (now (t .code)) (recordWith (now (t .flags)) (now (t .outputs)) (now (t .clock))) (t .inputs) (t .elapsed)))
 
 returns : tie.Need-returns
 returns c =
