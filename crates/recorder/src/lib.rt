@@ -3,7 +3,7 @@ use answer::Checked;
 use code::Record;
 use scan::State;
 ghost use Prim.Native.Nat.{_≤_};
-ghost use Rattle.answer.specs.Number.{placeOf};
+ghost use Rattle.answer.specs.Number.{placeOf, farthest};
 ghost use Rattle.sheet.specs.Judging.{checkSheet};
 ghost use Rattle.scan.specs.Scan.{scanSheet, coldScan};
 ghost use Rattle.code.specs.Check.{checkCode};
@@ -13,7 +13,7 @@ ghost use Rattle.recorder.specs.Answer.{stateOf, recordOf, Told, CodeLef
 
 // The number, and the place behind its pointer: no place needs more than 32 bits.
 fn answered(verdict: Checked, place: &mut u32) -> u32
-    requires { ⌜ placeOf verdict ≤ 40000 ⌝ }
+    requires { ⌜ placeOf verdict ≤ farthest ⌝ }
     ensures { λ r. ⌜ Told verdict r (now (place .exit)) ⌝ }
 {
     *place = answer::place_of(verdict) as u32;

@@ -4,7 +4,7 @@ use Prim.Native.Nat.{_≤_}
 use denote.Ref.{now}
 use native.Mathlib.Omega.{arith}
 use borrow.Author.Needs.{needs}
-use Rattle.answer.specs.Number.{placeOf}
+use Rattle.answer.specs.Number.{placeOf, farthest}
 use Rattle.code.specs.declared.Ran.{Ran}
 use Rattle.code.proofs.PlaceLaws.{run-place-fits}
 use Rattle.recorder.specs.Answer.{recordOf, Told}
@@ -17,7 +17,7 @@ run-requires c κs = search needs
 answered-requires : tie.Need-answered-requires
 answered-requires c κs =
     let t = c .before .before .before .before .before .before .before .args in
-    subst (λ (x : Ran). placeOf (x .verdict) ≤ 40000) (sym (c .before .before .run .ensures))
+    subst (λ (x : Ran). placeOf (x .verdict) ≤ farthest) (sym (c .before .before .run .ensures))
     (omega (arith, run-place-fits (now (t .code)) (recordOf (now (t .flags)) (now (t .outputs)) (now (t .clock))) (t .inputs) (t .elapsed)))
 
 returns : tie.Need-returns
