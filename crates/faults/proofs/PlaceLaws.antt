@@ -5,7 +5,7 @@ use mathlib.Core.List.{List, [], _∷_, map}
 use Prim.Native.Nat.{ℕ, suc, _+_, _≤_, _<_}
 use native.Mathlib.Omega.{arith}
 use lib.ListN.{length, length-map}
-use Rattle.answer.specs.Number.{placeOf}
+use Rattle.answer.specs.Number.{placeOf, farthest}
 use Rattle.answer.specs.declared.Refusal.the-variants as refuse
 use Rattle.answer.specs.declared.Checked.{Checked}
 use Rattle.answer.specs.declared.Checked.the-variants.{Accepted, Refused}
@@ -36,7 +36,7 @@ landing-below code pc (w ∷ is) i e =
     here-below (landsOpen code w) pc (pc + suc (length is)) (firstLanding code (suc pc) is) (omega arith)
     (λ j q. omega (arith, landing-below code (suc pc) is j q)) i e
 
-pub place-fits : (s : List ℕ) → placeOf (checkCode s) ≤ 8192
+pub place-fits : (s : List ℕ) → placeOf (checkCode s) ≤ farthest
 unfolding checkCode
 place-fits s = go (endFault s) refl
   where
@@ -45,9 +45,9 @@ place-fits s = go (endFault s) refl
 
     go : (b : Bool) → endFault s ≡ b
         → placeOf (cond b (Refused refuse.CodeEnd)
-        (refuseAt refuse.Word (firstFault (length (words s)) 0 0 (words s)) (refuseAt refuse.Landing (firstLanding is 0 is) Accepted))) ≤ 8192
+        (refuseAt refuse.Word (firstFault (length (words s)) 0 0 (words s)) (refuseAt refuse.Landing (firstLanding is 0 is) Accepted))) ≤ farthest
     go true e = omega arith
     go false e =
         let few : length (words s) ≤ 8192 = let f = end-good s e in omega (arith, f .few, f .whole) in
-        found-fits refuse.Word (λ i. refl) 8192 _ (λ i q. omega (arith, fault-below (length (words s)) 0 0 (words s) i q)) _
-        (found-fits refuse.Landing (λ i. refl) 8192 _ (λ i q. omega (arith, landing-below is 0 is i q, length-map (words s) decode)) Accepted (omega arith))
+        found-fits refuse.Word (λ i. refl) farthest _ (λ i q. omega (arith, fault-below (length (words s)) 0 0 (words s) i q)) _
+        (found-fits refuse.Landing (λ i. refl) farthest _ (λ i q. omega (arith, landing-below is 0 is i q, length-map (words s) decode)) Accepted (omega arith))

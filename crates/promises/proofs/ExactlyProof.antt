@@ -336,3 +336,10 @@ module _ (s : List ℕ) where
   exactly (refuse.Word i) u = absurd u
   exactly (refuse.Landing i) u = absurd u
   exactly (refuse.NoState i) u = absurd u
+  exactly (refuse.Text i) u = absurd u
+  exactly (refuse.Unused i) u = absurd u
+  exactly (refuse.Weights i) u = absurd u
+  exactly refuse.Steps u = absurd u
+  exactly (refuse.IdleWait i) u = absurd u
+  exactly (refuse.Foreign i) u = absurd u
+  exactly (refuse.Field i) u = absurd u

@@ -47,6 +47,13 @@ unread-number s refuse.CodeEnd h = absurd h
 unread-number s (refuse.Word i) h = absurd h
 unread-number s (refuse.Landing i) h = absurd h
 unread-number s (refuse.NoState i) h = absurd h
+unread-number s (refuse.Text i) h = absurd h
+unread-number s (refuse.Unused i) h = absurd h
+unread-number s (refuse.Weights i) h = absurd h
+unread-number s refuse.Steps h = absurd h
+unread-number s (refuse.IdleWait i) h = absurd h
+unread-number s (refuse.Foreign i) h = absurd h
+unread-number s (refuse.Field i) h = absurd h
 
 -- the check of sheets gives none above 13
 judge-number : (a : Sheet) (why : Refusal) → judge a ≡ Refused why → 14 ≤ number why → ⊥

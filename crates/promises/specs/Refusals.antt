@@ -99,6 +99,13 @@ Unread s refuse.CodeEnd = ⊥
 Unread s (refuse.Word at) = ⊥
 Unread s (refuse.Landing at) = ⊥
 Unread s (refuse.NoState state) = ⊥
+Unread s (refuse.Text line) = ⊥
+Unread s (refuse.Unused number) = ⊥
+Unread s (refuse.Weights row) = ⊥
+Unread s refuse.Steps = ⊥
+Unread s (refuse.IdleWait transition) = ⊥
+Unread s (refuse.Foreign at) = ⊥
+Unread s (refuse.Field index) = ⊥
 
 pub record Refusals : Type 0 where
   -- a sheet is refused in reading, or read to its end and judged by the lowest fault

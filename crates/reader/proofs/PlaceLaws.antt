@@ -5,7 +5,7 @@ use mathlib.Core.List.{List}
 use Prim.Native.Nat.{ℕ, _+_, _≤_}
 use native.Mathlib.Omega.{arith}
 use lib.Dec.{ltb, eqb}
-use Rattle.answer.specs.Number.{place}
+use Rattle.answer.specs.Number.{place, farthest}
 use Rattle.answer.specs.declared.Refusal.{Refusal}
 use Rattle.answer.specs.declared.Refusal.the-variants as refuse
 use Rattle.bits.specs.Read.{no, readField, upto}
@@ -48,23 +48,23 @@ module _ (n : ℕ) (s : List ℕ) where
       bind-within n (conditionAt s k a4) _ (condition-within n s k a4 (omega (arith, field-read s 24 a3 e4 .after))) λ t a5 e5.
       ok-within n _ a5))
 
-sheet-within : (s : List ℕ) → Within 30000 (readSheet s)
+sheet-within : (s : List ℕ) → Within farthest (readSheet s)
 unfolding readSheet
 sheet-within s =
-    bind-within 30000 (readHeader s) _ (header-within 30000 s (omega arith)) λ h a1 e1.
+    bind-within farthest (readHeader s) _ (header-within farthest s (omega arith)) λ h a1 e1.
     let f = header-fits s e1 in
     let l = f .outputs .1 in
     let few = f .states .1 in
     let m = f .transitions .1 in
-    bind-within 30000 (upto (rowAt s (h .outputs)) a1 (h .states)) _
-    (upto-within 30000 (rowAt s (h .outputs)) 16 (λ a x b e. omega (arith, row-next s (h .outputs) a e)) a1 (h .states)
-    (λ a q. row-within 30000 s (h .outputs) a (omega (arith, f .after)))) λ rows a2 e2.
+    bind-within farthest (upto (rowAt s (h .outputs)) a1 (h .states)) _
+    (upto-within farthest (rowAt s (h .outputs)) 16 (λ a x b e. omega (arith, row-next s (h .outputs) a e)) a1 (h .states)
+    (λ a q. row-within farthest s (h .outputs) a (omega (arith, f .after)))) λ rows a2 e2.
     let r = rows-next s (h .outputs) a1 (h .states) l few e2 in
-    bind-within 30000 (upto (transitionAt s (h .states) (h .inputs)) a2 (h .transitions)) _
-    (upto-within 30000 (transitionAt s (h .states) (h .inputs)) 227 (λ a t b e. transition-next s (h .states) (h .inputs) a e) a2 (h .transitions)
-    (λ a q. transition-within 30000 s (h .states) (h .inputs) a (omega (arith, f .after)))) λ ts a3 e3.
-    guard-within 30000 (endsAt s a3) (refuse.Tail a3) _
-    (omega (arith, f .after, transitions-next s (h .states) (h .inputs) a2 (h .transitions) m e3)) (ok-within 30000 _ a3)
+    bind-within farthest (upto (transitionAt s (h .states) (h .inputs)) a2 (h .transitions)) _
+    (upto-within farthest (transitionAt s (h .states) (h .inputs)) 227 (λ a t b e. transition-next s (h .states) (h .inputs) a e) a2 (h .transitions)
+    (λ a q. transition-within farthest s (h .states) (h .inputs) a (omega (arith, f .after)))) λ ts a3 e3.
+    guard-within farthest (endsAt s a3) (refuse.Tail a3) _
+    (omega (arith, f .after, transitions-next s (h .states) (h .inputs) a2 (h .transitions) m e3)) (ok-within farthest _ a3)
 
-pub place-fits : (s : List ℕ) (why : Refusal) → readSheet s ≡ no why → place why ≤ 30000
+pub place-fits : (s : List ℕ) (why : Refusal) → readSheet s ≡ no why → place why ≤ farthest
 place-fits s why e = sheet-within s .fits why e

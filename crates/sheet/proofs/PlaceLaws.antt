@@ -3,7 +3,7 @@ use mathlib.Core.Path.{_≡_, refl}
 use mathlib.Core.List.{List}
 use Prim.Native.Nat.{ℕ, _≤_}
 use native.Mathlib.Omega.{arith}
-use Rattle.answer.specs.Number.{place, placeOf}
+use Rattle.answer.specs.Number.{place, placeOf, farthest}
 use Rattle.answer.specs.declared.Refusal.{Refusal}
 use Rattle.answer.specs.declared.Refusal.the-variants.{Loop, Pair, Rank, NoHome, HomeForm, Gate, Activity}
 use Rattle.answer.specs.declared.Checked.{Checked}
@@ -31,16 +31,16 @@ judge-fits a n m =
 read-fits : (s : List ℕ) (a : Sheet) (end : ℕ) → readSheet s ≡ ok a end → placeOf (judge a) ≤ 128
 read-fits s a end e = let z = read-sizes s a end e in judge-fits a (omega (arith, z .0)) (z .1)
 
-pub place-fits : (s : List ℕ) → placeOf (checkSheet s) ≤ 30000
+pub place-fits : (s : List ℕ) → placeOf (checkSheet s) ≤ farthest
 unfolding checkSheet
 place-fits s = go (readSheet s) refl
   where
-    go : (x : Ans Sheet) → readSheet s ≡ x → placeOf (judgeRead x) ≤ 30000
+    go : (x : Ans Sheet) → readSheet s ≡ x → placeOf (judgeRead x) ≤ farthest
     go (ok a end) e = omega (arith, read-fits s a end e)
     go (no why) e = reading.place-fits s why e
 
 -- what goes on with a sheet: what holds of every refusal with such a place, and of every sheet that was read, holds
-module _ {B : Type 0} (P : B → Type 0) (refuse : Refusal → B) (h : (why : Refusal) → place why ≤ 30000 → P (refuse why)) where
+module _ {B : Type 0} (P : B → Type 0) (refuse : Refusal → B) (h : (why : Refusal) → place why ≤ farthest → P (refuse why)) where
   judged-holds : (v : Checked) (b : B) → placeOf v ≤ 128 → P b → P (judgedOr v refuse b)
   judged-holds Accepted b l p = p
   judged-holds (Refused why) b l p = h why (omega arith)

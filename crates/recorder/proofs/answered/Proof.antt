@@ -1,4 +1,4 @@
--- `answered` meets its contract: a place of at most 40,000 fits 32 bits. Assumes nothing.
+-- `answered` meets its contract: a place of at most `farthest` fits 32 bits. Assumes nothing.
 use native.Mathlib.Omega.{arith}
 use borrow.Author.Needs.{needs}
 use Rattle.recorder.proofs.answered.Statement.{statement}

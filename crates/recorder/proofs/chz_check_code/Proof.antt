@@ -4,7 +4,7 @@ use Prim.Native.Nat.{_≤_}
 use denote.Ref.{now}
 use native.Mathlib.Omega.{arith}
 use borrow.Author.Needs.{needs}
-use Rattle.answer.specs.Number.{placeOf}
+use Rattle.answer.specs.Number.{placeOf, farthest}
 use Rattle.answer.specs.declared.Checked.{Checked}
 use Rattle.faults.proofs.PlaceLaws.{place-fits}
 use Rattle.recorder.specs.Answer.{Told}
@@ -16,10 +16,13 @@ check-code-requires c κs = search needs
 
 answered-requires : tie.Need-answered-requires
 answered-requires c κs =
-    subst (λ (v : Checked). placeOf v ≤ 40000) (sym (c .before .check-code .ensures)) (omega (arith, place-fits (now (c .before .before .before .args .code))))
+    subst (λ (v : Checked). placeOf v ≤ farthest) (sym (c .before .check-code .ensures)) (omega (arith, place-fits (now (c .before .before .before .args .code))))
 
 returns : tie.Need-returns
-returns c = subst (λ (v : Checked). Told v (c .answered .result) (c .answered .last .1 .0)) (c .before .before .check-code .ensures) (c .answered .ensures)
+returns c =
+    record {
+      told = subst (λ (v : Checked). Told v (c .answered .result) (c .answered .last .1 .0)) (c .before .before .check-code .ensures) (c .answered .ensures);
+    }
 
 pub chz-check-code-spec : {M : Type 1} → statement M
 chz-check-code-spec = tie.close (tie.spec check-code-requires answered-requires returns)

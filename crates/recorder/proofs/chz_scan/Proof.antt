@@ -4,7 +4,7 @@ use Prim.Native.Nat.{_≤_, _<_}
 use denote.Ref.{now}
 use native.Mathlib.Omega.{arith}
 use borrow.Author.Needs.{needs}
-use Rattle.answer.specs.Number.{placeOf}
+use Rattle.answer.specs.Number.{placeOf, farthest}
 use Rattle.scan.specs.declared.Scanned.{Scanned}
 use Rattle.scan.proofs.PlaceLaws.{place-fits}
 use Rattle.recorder.specs.Answer.{stateOf, Told}
@@ -18,19 +18,20 @@ answered-requires : tie.Need-answered-requires
 answered-requires c κs =
     let t = c .before .before .before .before .before .before .before .args in
     let byte : now (t .state) < 256 = omega arith in
-    subst (λ (x : Scanned). placeOf (x .verdict) ≤ 40000) (sym (c .before .before .scan .ensures))
+    subst (λ (x : Scanned). placeOf (x .verdict) ≤ farthest) (sym (c .before .before .scan .ensures))
     (place-fits (now (t .sheet)) (stateOf (now (t .state)) (now (t .outputs)) (now (t .clock))) (t .inputs) (t .elapsed) byte)
 
 returns : tie.Need-returns
 returns c =
-    let e = c .before .before .before .scan .ensures in (
-      subst (λ (x : Scanned). Told (x .verdict) (c .answered .result) (c .answered .last .1 .0)) e (c .answered .ensures),
-      record {
+    let e = c .before .before .before .scan .ensures in
+    record {
+      told = subst (λ (x : Scanned). Told (x .verdict) (c .answered .result) (c .answered .last .1 .0)) e (c .answered .ensures);
+      left = record {
         state-is = ap (λ (x : Scanned). x .«record» .state) e;
         outputs-is = ap (λ (x : Scanned). x .«record» .outputs) e;
         clock-is = ap (λ (x : Scanned). x .«record» .clock) e;
-      },
-    )
+      };
+    }
 
 pub chz-scan-spec : {M : Type 1} → statement M
 chz-scan-spec = tie.close (tie.spec scan-requires answered-requires returns)

@@ -4,7 +4,7 @@ use Prim.Native.Nat.{_≤_}
 use denote.Ref.{now}
 use native.Mathlib.Omega.{arith}
 use borrow.Author.Needs.{needs}
-use Rattle.answer.specs.Number.{placeOf}
+use Rattle.answer.specs.Number.{placeOf, farthest}
 use Rattle.translate.specs.Writing.{translateInto}
 use Rattle.translate.specs.declared.Translated.{Translated}
 use Rattle.translate.proofs.PlaceLaws.{place-fits, length-fits}
@@ -25,20 +25,21 @@ cast-length c =
 answered-requires : tie.Need-answered-requires
 answered-requires c κs =
     let t = c .before .before .before .before .before .before .before .before .args in
-    subst (λ (x : Translated). placeOf (x .verdict) ≤ 40000) (sym (c .before .before .before .before .translate .ensures .0)) (place-fits (now (t .sheet)) (now (t .code)))
+    subst (λ (x : Translated). placeOf (x .verdict) ≤ farthest) (sym (c .before .before .before .before .translate .ensures .0)) (place-fits (now (t .sheet)) (now (t .code)))
 
 same-length : tie.Need-same-length
 same-length c = search needs
 
 returns : tie.Need-returns
 returns c =
-    let e = c .before .before .before .before .before .translate .ensures in (
-      subst (λ (x : Translated). Told (x .verdict) (c .answered .result) (c .answered .last .1 .0)) (e .0) (c .answered .ensures),
-      record {
+    let e = c .before .before .before .before .before .translate .ensures in
+    record {
+      told = subst (λ (x : Translated). Told (x .verdict) (c .answered .result) (c .answered .last .1 .0)) (e .0) (c .answered .ensures);
+      left = record {
         length-is = ap (λ (x : Translated). x .length) (e .0);
         code-is = e .1;
-      },
-    )
+      };
+    }
 
 pub chz-translate-spec : {M : Type 1} → statement M
 chz-translate-spec = tie.close (tie.spec translate-requires cast-length answered-requires same-length returns)

@@ -1,0 +1,10 @@
+-- `cond_fault` meets its contract. Assumes nothing.
+use borrow.Author.Needs.{needs}
+use Rattle.reader.proofs.cond_fault.Statement.{statement}
+use Rattle.reader.proofs.cond_fault.Tie as tie
+
+returns : tie.Need-returns
+returns c = rw (c .before .a .given .1)
+
+pub cond-fault-spec : {M : Type 1} → statement M
+cond-fault-spec = tie.close (tie.spec (λ c. search needs) (λ c. search needs) returns (λ c. search needs))
