@@ -11,7 +11,8 @@ use Rattle.clock.specs.Onward.{onward}
 use Rattle.condition.specs.Cond.{Cond, inp, neg, conj, disj, eval}
 use Rattle.reader.specs.Sheet.{Transition, Sheet}
 use Rattle.reader.specs.Reading.{readSheet}
-use Rattle.rules.specs.Rules.{InputsBelow, Fields, Rules}
+use Rattle.format.specs.Fields.{InputsBelow, Fields}
+use Rattle.rules.specs.Rules.{Rules}
 use Rattle.sheet.specs.Judging.{checkSheet}
 use Rattle.scan.specs.declared.State.{State}
 use Rattle.scan.specs.Scan.{can, best, after, scanOf, scanSheet, refused}

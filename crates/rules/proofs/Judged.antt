@@ -10,13 +10,14 @@ use borrow.Author.Tests.{eqb-true, eqb-false, eq-eqb, ne-eqb, lt-ltb, not-false}
 use Rattle.answer.specs.Lowest.{anyBelow}
 use Rattle.answer.specs.declared.Refusal.the-variants as refuse
 use Rattle.answer.specs.declared.Checked.the-variants.{Accepted}
+use Rattle.answer.proofs.BoolLaws.{true-false, and-true}
 use Rattle.answer.proofs.Laws.{any-hit}
 use Rattle.condition.specs.Cond.{Cond, inp, neg, conj, disj, isOn, isOff, isGated}
 use Rattle.reader.specs.Sheet.{Transition, Sheet, count, transitionOf, rowOf}
 use Rattle.sheet.specs.Judging.{loops, clashes, goesHome, lacksHome, lacksHomeForm, lacksGate, differs, wrongActivity, judge}
 use Rattle.rules.specs.Rules.{HomeForm, Gated, Rules}
-use Rattle.rules.proofs.Search.{true-false, and-true, first-none, none-first, any-none, none-any, any-some, refuse-none, none-refuse}
-use Rattle.rules.proofs.Fits.{Fits}
+use Rattle.format.specs.Fields.{WellFormed}
+use Rattle.rules.proofs.Search.{first-none, none-first, any-none, none-any, any-some, refuse-none, none-refuse}
 
 -- two pairs of equal numbers
 differ : (x y u v : ℕ) → eqb x y && eqb u v ≡ false → x ≡ y → u ≡ v → ⊥
@@ -137,7 +138,7 @@ actively true false e = true-false e
 actively false true e = true-false (sym e)
 actively false false e = refl
 
-module _ (a : Sheet) (f : Fits a) where
+module _ (a : Sheet) (f : WellFormed a) where
   rules : judge a ≡ Accepted → Rules a
   unfolding judge
   rules e =

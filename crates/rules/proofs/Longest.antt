@@ -15,11 +15,11 @@ use Rattle.condition.specs.Cond.{Cond, inp, neg, conj, disj, nodes, condBits}
 use Rattle.reader.specs.Sheet.{Transition, Sheet, count, transitionOf, sumOver}
 use Rattle.reader.specs.Reading.{endsAt, readSheet}
 use Rattle.rules.specs.Rules.{Rules}
-use Rattle.rules.specs.Writing.{transitionBits, sheetBits}
-use Rattle.rules.proofs.Search.{and-true}
-use Rattle.rules.proofs.ListStands.{joinAll}
-use Rattle.rules.proofs.TransitionStands.{transition-length}
-use Rattle.rules.proofs.SheetStands.{sheet-said, sheet-length}
+use Rattle.format.specs.Writing.{transitionBits, sheetBits}
+use Rattle.answer.proofs.BoolLaws.{and-true}
+use Rattle.format.proofs.ListStands.{joinAll}
+use Rattle.format.proofs.TransitionStands.{transition-length}
+use Rattle.format.proofs.SheetStands.{sheet-said, sheet-length}
 use Rattle.rules.proofs.Counting.{homes-few, pairs-few, weighed}
 
 -- 6 bits for an input and 2 for any other node

@@ -1,7 +1,7 @@
 -- What a search for the lowest place says of every place below its end. Assumes nothing.
 use mathlib.Core.Path.{_≡_, refl, sym}
 use mathlib.Core.Logic.{⊎-elim}
-use mathlib.Core.Bool.{Bool, true, false, _&&_, _||_}
+use mathlib.Core.Bool.{Bool, true, false, _||_}
 use Prim.Native.Nat.{ℕ, zero, suc, _<_}
 use native.Mathlib.Nat.{eq-or-lt-of-le, le-of-suc-le-suc}
 use native.Mathlib.Omega.{arith}
@@ -11,17 +11,7 @@ use Rattle.answer.specs.declared.Found.{Found}
 use Rattle.answer.specs.declared.Found.the-variants.{At, Nothing}
 use Rattle.answer.specs.declared.Checked.{Checked}
 use Rattle.answer.specs.declared.Checked.the-variants.{Accepted}
-
-pub true-false : {B : Type 0} → true ≡ false → B
-true-false e = let z : _≡_ {A = ℕ} 0 1 = cc in absurd (omega arith)
-
-pub and-true : (a b : Bool) → a && b ≡ true → (a ≡ true) × (b ≡ true)
-and-true true b e = (refl, e)
-and-true false b e = true-false (sym e)
-
-neither : (a b : Bool) → a || b ≡ false → (a ≡ false) × (b ≡ false)
-neither true b e = true-false e
-neither false b e = (refl, e)
+use Rattle.answer.proofs.BoolLaws.{true-false, or-false}
 
 or-at : (f : Found) (b : Bool) (n : ℕ) → orAt f b n ≡ Nothing → (f ≡ Nothing) × (b ≡ false)
 or-at (At i) b n e = true-false cc
@@ -47,7 +37,7 @@ module _ (p : ℕ → Bool) where
   pub any-none : (n : ℕ) → anyBelow p n ≡ false → (i : ℕ) → i < n → p i ≡ false
   unfolding anyBelow
   any-none zero e i l = absurd (omega arith)
-  any-none (suc n) e i l = let q = neither (anyBelow p n) (p n) e in below l (any-none n (q .0)) (q .1)
+  any-none (suc n) e i l = let q = or-false (anyBelow p n) (p n) e in below l (any-none n (q .0)) (q .1)
 
   pub none-any : (n : ℕ) → ((i : ℕ) → i < n → p i ≡ false) → anyBelow p n ≡ false
   unfolding anyBelow

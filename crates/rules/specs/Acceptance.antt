@@ -1,18 +1,14 @@
 -- The acceptance theorem: what is proved of the checker's definition and the rules, apart from any code.
-use Prim.Native.Nat.{ℕ, _≤_, _<_}
+use Prim.Native.Nat.{ℕ, _≤_}
 use mathlib.Core.Path.{_≡_}
 use mathlib.Core.Logic.{_↔_}
 use mathlib.Core.List.{List}
-use lib.ListN.{length, getD, take}
+use lib.ListN.{length, take}
 use Rattle.answer.specs.declared.Checked.the-variants.{Accepted}
 use Rattle.reader.specs.Sheet.{Sheet}
 use Rattle.sheet.specs.Judging.{checkSheet}
 use Rattle.rules.specs.Rules.{Rules}
-use Rattle.rules.specs.Writing.{sheetOf}
-
--- s is a byte string
-abbrev pub Bytes : List ℕ → Type 0
-Bytes s = (i : ℕ) → i < length s → getD s i 0 < 256
+use Rattle.format.specs.Writing.{Bytes, sheetOf}
 
 pub record Acceptance : Type 0 where
   -- a byte string is accepted exactly when it is the bytes of a sheet that keeps the rules

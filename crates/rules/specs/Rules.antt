@@ -4,25 +4,10 @@ use mathlib.Core.Path.{_≡_}
 use mathlib.Core.Logic.{_⊎_}
 use mathlib.Core.Bool.{true, false}
 use lib.ListN.{length, getD}
-use Rattle.condition.specs.Cond.{Cond, inp, neg, conj, disj, nodes, depth}
+use Rattle.condition.specs.Cond.{Cond, inp, neg, conj}
 use Rattle.reader.specs.Sheet.{Transition, Sheet, count, transitionOf, rowOf}
-
--- every input that a condition names is one of the k inputs
-abbrev pub InputsBelow : ℕ → Cond → Type 0
-InputsBelow k (inp i) = i < k
-InputsBelow k (neg c) = InputsBelow k c
-InputsBelow k (conj a b) = InputsBelow k a × InputsBelow k b
-InputsBelow k (disj a b) = InputsBelow k a × InputsBelow k b
-
--- a transition whose fields hold what they may
-pub record Fields (n k : ℕ) (t : Transition) : Type 0 where
-  pub source : t .source < n
-  pub destination : t .destination < n
-  pub priority : t .priority < 128
-  pub wait : t .wait < 16777216
-  pub inputs : InputsBelow k (t .condition)
-  pub nodes : nodes (t .condition) ≤ 31
-  pub depth : depth (t .condition) ≤ 8
+-- what a transition's fields may hold is the format's
+pub use Rattle.format.specs.Fields.{InputsBelow, Fields}
 
 -- "priority 0, wait 0" and "the condition NOT input 0"
 pub record HomeForm (t : Transition) : Type 0 where

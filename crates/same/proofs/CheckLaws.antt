@@ -12,7 +12,7 @@ use Rattle.answer.specs.declared.Found.{Found}
 use Rattle.answer.specs.declared.Found.the-variants.{Nothing}
 use Rattle.condition.specs.Cond.{Cond, inp, neg, conj, disj, depth, wordCount}
 use Rattle.reader.specs.Sheet.{Transition}
-use Rattle.rules.specs.Rules.{InputsBelow, Fields}
+use Rattle.format.specs.Fields.{InputsBelow, Fields}
 use Rattle.scan.proofs.AllLaws.{All}
 use Rattle.words.specs.Word.{Word, LDS, LDI, NOT, ANDP, ORP, PAR, R, S, RA, SA, JMPC, JMP}
 use Rattle.faults.specs.Check.{opens, strays, faulty, hereOr, depthAt, landsOpen, firstLanding}

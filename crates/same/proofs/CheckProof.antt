@@ -10,7 +10,8 @@ use lib.ListN.{length}
 use Rattle.answer.specs.declared.Found.the-variants.{Nothing}
 use Rattle.answer.specs.declared.Checked.the-variants.{Accepted}
 use Rattle.reader.specs.Sheet.{Transition, Sheet}
-use Rattle.rules.specs.Rules.{Fields, Rules}
+use Rattle.format.specs.Fields.{Fields}
+use Rattle.rules.specs.Rules.{Rules}
 use Rattle.scan.proofs.AllLaws.{All}
 use Rattle.words.specs.Word.{Word, END, JMP, ANDT, TRES, operand, wordNo, words}
 use Rattle.words.proofs.WordLaws.{Fit, words-to}

@@ -1,7 +1,8 @@
 -- A fact of every word of some code; and each transition's fields. Assumes nothing.
 use mathlib.Core.List.{List, [], _∷_, _++_}
 use Rattle.reader.specs.Sheet.{Sheet}
-use Rattle.rules.specs.Rules.{Fields, Rules}
+use Rattle.format.specs.Fields.{Fields}
+use Rattle.rules.specs.Rules.{Rules}
 use Rattle.scan.proofs.AllLaws.{All, all-of}
 use Rattle.words.specs.Word.{Word}
 

@@ -17,8 +17,8 @@ use Rattle.sheet.specs.Judging.{checkSheet}
 use Rattle.sheet.specs.Opening.{Good}
 use Rattle.sheet.specs.declared.Opened.{Opened}
 use Rattle.sheet.proofs.WithLaws.{with-refused, with-accepted}
-use Rattle.rules.proofs.Fits.{Fits}
-use Rattle.rules.proofs.ReadFits.{read-fits}
+use Rattle.format.specs.Fields.{WellFormed}
+use Rattle.format.proofs.Format.{read-formed}
 use Rattle.scan.specs.Scan.{Choice, none, some, can, best, outputsOf, after, scanOf, coldOf, accepted, refused, zeros, scanSheet, coldScan}
 use Rattle.scan.specs.Picking.{Picks, Inside, movedOf}
 use Rattle.scan.specs.declared.State.{State}
@@ -52,14 +52,14 @@ module _ (s : List ℕ) (o : Opened) (rows lines : List ℕ) (g : Good s o rows 
   unfolding coldScan
   cold-accepted = with-accepted s (g .sheet) (g .end) (refused zeros) _ (g .read) (g .judged)
 
-  pub fits : Fits (g .sheet)
-  fits = read-fits s (g .sheet) (g .end) (g .read)
+  pub formed : WellFormed (g .sheet)
+  formed = read-formed s (g .sheet) (g .end) (g .read)
 
   -- what is chosen goes to a state that the sheet has
   chosen : (active word clock : ℕ) → OnChoice (λ t. (t .destination < g .sheet .states) × (can active word clock t ≡ true)) (best active word clock (g .sheet .transitions))
   chosen active word clock =
       best-on active word clock (λ t. t .destination < g .sheet .states) (g .sheet .transitions)
-      (all-of (λ t. t .destination < g .sheet .states) (g .sheet .transitions) (λ i l. fits .fields i l .destination))
+      (all-of (λ t. t .destination < g .sheet .states) (g .sheet .transitions) (λ i l. formed .fields i l .destination))
 
   inside-by : (n : ℕ) (Q : Transition → Type 0) (p : Pick) (ch : Choice) → n ≤ 32 → Picks p ch → OnChoice (λ t. (t .destination < n) × Q t) ch → Inside p
   inside-by n Q pick.Nothing ch few h on = tt
@@ -67,7 +67,7 @@ module _ (s : List ℕ) (o : Opened) (rows lines : List ℕ) (g : Good s o rows 
   inside-by n Q (pick.Best a d) (some t) few h on = omega (arith, h .1, on .0)
 
   pub inside : (active word clock : ℕ) (p : Pick) → Picks p (best active word clock (g .sheet .transitions)) → Inside p
-  inside active word clock p h = inside-by (g .sheet .states) _ p _ (fits .states .1) h (chosen active word clock)
+  inside active word clock p h = inside-by (g .sheet .states) _ p _ (formed .states .1) h (chosen active word clock)
 
   moved-by : (Q : Transition → Type 0) (rows : List ℕ) (q : State) (clock : ℕ) (p : Pick) (ch : Choice) → Picks p ch
       → OnChoice (λ t. (t .destination < g .sheet .states) × Q t) ch
@@ -93,4 +93,4 @@ module _ (s : List ℕ) (o : Opened) (rows lines : List ℕ) (g : Good s o rows 
   -- the record that the code starts with is the cold one
   pub cold-is : coldScan s ≡ accepted (record { state = 0; outputs = getD rows 0 0; clock = 0 })
   unfolding coldOf outputsOf
-  cold-is = cold-accepted ∙ rw (g .copy .row 0 (omega (arith, fits .states .0))) refl
+  cold-is = cold-accepted ∙ rw (g .copy .row 0 (omega (arith, formed .states .0))) refl

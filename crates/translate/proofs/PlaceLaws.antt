@@ -13,7 +13,7 @@ use Rattle.condition.specs.Cond.{nodes}
 use Rattle.reader.specs.Sheet.{Sheet}
 use Rattle.reader.specs.Reading.{readSheet}
 use Rattle.sheet.proofs.PlaceLaws.{with-holds}
-use Rattle.rules.proofs.ReadFits.{read-fits}
+use Rattle.format.proofs.Format.{read-formed}
 use Rattle.scan.proofs.AllLaws.{all-of}
 use Rattle.translate.specs.Writing.{codeOf, Written, unwritten, writtenWith, translateInto, noRecord, coldRun}
 use Rattle.translate.specs.declared.Cold.{Cold}
@@ -23,7 +23,7 @@ use Rattle.translate.proofs.RoomLaws.{end-words}
 -- the code of a sheet that was read
 code-fits : (s : List ℕ) (a : Sheet) (end : ℕ) → readSheet s ≡ ok a end → length (codeOf a) ≤ farthest
 code-fits s a end e =
-    let f = read-fits s a end e in
+    let f = read-formed s a end e in
     let h = all-of (λ t. nodes (t .condition) ≤ 31) (a .transitions) (λ i l. f .fields i l .nodes) in
     omega (
       arith,

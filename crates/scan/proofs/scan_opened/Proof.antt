@@ -6,7 +6,7 @@ use native.Mathlib.Omega.{arith}
 use Rattle.sheet.specs.Opening.{Good}
 use Rattle.scan.specs.Scan.{best, after, scanOf, accepted}
 use Rattle.scan.specs.Picking.{Picks}
-use Rattle.scan.proofs.ScanLaws.{scan-refused, scan-accepted, scan-no-state, fits, inside, moved-is, lines-hold}
+use Rattle.scan.proofs.ScanLaws.{scan-refused, scan-accepted, scan-no-state, formed, inside, moved-is, lines-hold}
 use Rattle.scan.proofs.scan_opened.Statement.{statement}
 use Rattle.scan.proofs.scan_opened.Tie as tie
 
@@ -46,7 +46,7 @@ choose-requires : tie.Need-choose-requires
 choose-requires c κs =
     let a = c .before .before .before .before .before .before .before .args in
     let g = good (c .before .before .before .before) in (
-      omega (arith, g .copy .transitions, fits (a .sheet .now) (a .o) (a .rows .now) (a .lines .now) g .transitions .1),
+      omega (arith, g .copy .transitions, formed (a .sheet .now) (a .o) (a .rows .now) (a .lines .now) g .transitions .1),
       λ i l. g .copy .line i (omega (arith, g .copy .transitions)) .near,
     )
 

@@ -8,7 +8,7 @@ use lib.ListN.{length, getD, take, drop, length-append}
 use lib.Seq.{split-at, take-suc, take-length}
 use Rattle.bits.specs.Read.{Ans, ok, upto}
 use Rattle.bits.proofs.ReadLaws.{ok-is, ok-next, bind-ok}
-use Rattle.rules.proofs.Stands.{Stands, stands-join, stands-split}
+use Rattle.format.proofs.Stands.{Stands, stands-join, stands-split}
 
 -- the bits of a list's elements
 abbrev pub joinAll : {A : Type 0} → (A → List Bool) → List A → List Bool

@@ -10,12 +10,7 @@ use lib.Dec.{eqb}
 use lib.Pow.{high, split, pow-pos, shr-lt}
 use Rattle.bits.specs.Word.{bitNo, getBit, bitsOf}
 use Rattle.bits.proofs.WordLaws.{get-is}
-use Rattle.rules.specs.Writing.{numOf}
-
-pub bits-length : (w v : ℕ) → length (bitsOf w v) ≡ w
-unfolding bitsOf
-bits-length zero v = refl
-bits-length (suc w) v = ap suc (bits-length w v)
+use Rattle.format.specs.Writing.{numOf}
 
 pub bit-is : (n : ℕ) → n < 2 → n ≡ bitNo (eqb n 1)
 bit-is zero l = refl

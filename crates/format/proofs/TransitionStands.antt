@@ -10,17 +10,17 @@ use Rattle.bits.specs.Word.{bitsOf}
 use Rattle.bits.specs.Read.{ok}
 use Rattle.bits.proofs.FieldLaws.{Here}
 use Rattle.bits.proofs.ReadLaws.{ok-is, ok-next}
+use Rattle.bits.proofs.WordLaws.{bits-length}
 use Rattle.condition.specs.Cond.{condBits}
 use Rattle.condition.specs.Reading.{Counted, conditionAt}
 use Rattle.reader.specs.Sheet.{Transition, count}
 use Rattle.reader.specs.Reading.{transitionAt}
-use Rattle.rules.specs.Rules.{Fields}
-use Rattle.rules.specs.Writing.{transitionBits}
-use Rattle.rules.proofs.BitNumbers.{bits-length}
-use Rattle.rules.proofs.Stands.{Stands, field-stands, bits-read, put, cut}
-use Rattle.rules.proofs.Steps.{field-then, bind-then, guard-then}
-use Rattle.rules.proofs.CondStands.{CondSaid, cond-said, cond-reads}
-use Rattle.rules.proofs.ListStands.{Said}
+use Rattle.format.specs.Fields.{Fields}
+use Rattle.format.specs.Writing.{transitionBits}
+use Rattle.format.proofs.Stands.{Stands, field-stands, bits-read, put, cut}
+use Rattle.format.proofs.Steps.{field-then, bind-then, guard-then}
+use Rattle.format.proofs.CondStands.{CondSaid, cond-said, cond-reads}
+use Rattle.format.proofs.ListStands.{Said}
 
 -- a transition's fields one behind the other
 transition-bits : (t : Transition) → transitionBits t

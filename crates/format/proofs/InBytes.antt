@@ -7,14 +7,13 @@ use native.Mathlib.Omega.{arith}
 use lib.ListN.{length, take, drop, replicate, length-append, length-drop, length-take, length-replicate, take-append-drop}
 use lib.Dec.{eqb}
 use borrow.Author.Tests.{eq-eqb, eqb-true}
+use Rattle.answer.proofs.BoolLaws.{and-true}
 use Rattle.bits.specs.Field.{bitAt, numAt}
 use Rattle.bits.proofs.FieldLaws.{num-byte}
 use Rattle.reader.specs.Reading.{endsAt}
-use Rattle.rules.specs.Writing.{numOf, packBytes, pack}
-use Rattle.rules.specs.Acceptance.{Bytes}
-use Rattle.rules.proofs.Search.{and-true}
-use Rattle.rules.proofs.BitNumbers.{numOf-lt, bits-num, numOf-zeros, bits-zero}
-use Rattle.rules.proofs.Stands.{Stands, stands-join, stands-split, stands-num, num-stands}
+use Rattle.format.specs.Writing.{numOf, nBytes, inBytes, Bytes}
+use Rattle.format.proofs.BitNumbers.{numOf-lt, bits-num, numOf-zeros, bits-zero}
+use Rattle.format.proofs.Stands.{Stands, stands-join, stands-split, stands-num, num-stands}
 
 -- zero bits behind count for nothing
 numOf-pad : (w : ℕ) (xs : List Bool) (m : ℕ) → numOf w (xs ++ replicate m false) ≡ numOf w xs
@@ -34,23 +33,23 @@ drop-pad (suc k) [] (suc m) = drop-none k m
     drop-none (suc k) (suc m) = drop-none k m
 drop-pad (suc k) (x ∷ xs) m = drop-pad k xs m
 
-pack-pad : (n : ℕ) (xs : List Bool) (m : ℕ) → packBytes n (xs ++ replicate m false) ≡ packBytes n xs
-unfolding packBytes
-pack-pad zero xs m = refl
-pack-pad (suc n) xs m =
+bytes-pad : (n : ℕ) (xs : List Bool) (m : ℕ) → nBytes n (xs ++ replicate m false) ≡ nBytes n xs
+unfolding nBytes
+bytes-pad zero xs m = refl
+bytes-pad (suc n) xs m =
     let d = drop-pad 8 xs m in
-    ap₂ _∷_ (numOf-pad 8 xs m) (ap (packBytes n) (d .1) ∙ pack-pad n (drop 8 xs) (d .0))
+    ap₂ _∷_ (numOf-pad 8 xs m) (ap (nBytes n) (d .1) ∙ bytes-pad n (drop 8 xs) (d .0))
 
-pack-length : (n : ℕ) (xs : List Bool) → length (packBytes n xs) ≡ n
-unfolding packBytes
-pack-length zero xs = refl
-pack-length (suc n) xs = ap suc (pack-length n (drop 8 xs))
+bytes-length : (n : ℕ) (xs : List Bool) → length (nBytes n xs) ≡ n
+unfolding nBytes
+bytes-length zero xs = refl
+bytes-length (suc n) xs = ap suc (bytes-length n (drop 8 xs))
 
-pack-bytes : (n : ℕ) (xs : List Bool) → Bytes (packBytes n xs)
-unfolding packBytes
-pack-bytes zero xs i l = omega arith
-pack-bytes (suc n) xs zero l = numOf-lt 8 xs
-pack-bytes (suc n) xs (suc i) l = pack-bytes n (drop 8 xs) i (omega arith)
+bytes-below : (n : ℕ) (xs : List Bool) → Bytes (nBytes n xs)
+unfolding nBytes
+bytes-below zero xs i l = omega arith
+bytes-below (suc n) xs zero l = numOf-lt 8 xs
+bytes-below (suc n) xs (suc i) l = bytes-below n (drop 8 xs) i (omega arith)
 
 -- the bits of the bytes behind the first
 bit-behind : (y : ℕ) (s : List ℕ) (i : ℕ) → bitAt (y ∷ s) (i + 8) ≡ bitAt s i
@@ -91,28 +90,28 @@ eight : (xs : List Bool) (n : ℕ) → length xs ≡ suc n * 8 → (length (take
 eight xs n e = (omega (arith, length-take 8 xs), omega (arith, length-drop 8 xs))
 
 -- whole bytes: their bits stand in them
-pack-stands : (n : ℕ) (xs : List Bool) → length xs ≡ n * 8 → Stands (packBytes n xs) 0 xs
-unfolding packBytes
-pack-stands zero [] e = omega arith
-pack-stands zero (x ∷ xs) e = absurd (omega arith)
-pack-stands (suc n) xs e =
-    let s = packBytes n (drop 8 xs) in
+bytes-stand : (n : ℕ) (xs : List Bool) → length xs ≡ n * 8 → Stands (nBytes n xs) 0 xs
+unfolding nBytes
+bytes-stand zero [] e = omega arith
+bytes-stand zero (x ∷ xs) e = absurd (omega arith)
+bytes-stand (suc n) xs e =
+    let s = nBytes n (drop 8 xs) in
     let long = eight xs n e in
     let first : Stands (numOf 8 xs ∷ s) 0 (take 8 xs) = rw (numOf-take 8 xs) at (byte-stands s (take 8 xs) (long .0)) in
-    let rest : Stands (numOf 8 xs ∷ s) 8 (drop 8 xs) = stands-behind (numOf 8 xs) s 0 (drop 8 xs) (pack-stands n (drop 8 xs) (long .1)) in
+    let rest : Stands (numOf 8 xs ∷ s) 8 (drop 8 xs) = stands-behind (numOf 8 xs) s 0 (drop 8 xs) (bytes-stand n (drop 8 xs) (long .1)) in
     subst (Stands (numOf 8 xs ∷ s) 0) (take-append-drop 8 xs)
     (stands-join (numOf 8 xs ∷ s) 0 (take 8 xs) (drop 8 xs) first (rw (long .0) rest))
 
 -- and in no other byte string of that length
-pack-only : (s : List ℕ) → Bytes s → (xs : List Bool) → length xs ≡ length s * 8 → Stands s 0 xs → s ≡ packBytes (length s) xs
-unfolding packBytes
-pack-only [] b xs e h = refl
-pack-only (y ∷ s) b xs e h =
+bytes-only : (s : List ℕ) → Bytes s → (xs : List Bool) → length xs ≡ length s * 8 → Stands s 0 xs → s ≡ nBytes (length s) xs
+unfolding nBytes
+bytes-only [] b xs e h = refl
+bytes-only (y ∷ s) b xs e h =
     let long = eight xs (length s) e in
     let both = stands-split (y ∷ s) 0 (take 8 xs) (drop 8 xs) (subst (Stands (y ∷ s) 0) (sym (take-append-drop 8 xs)) h) in
     let first : y ≡ numOf 8 xs = byte-is y s (take 8 xs) (b 0 (omega arith)) (long .0) (both .0) ∙ numOf-take 8 xs in
     let rest : Stands s 0 (drop 8 xs) = behind-stands y s 0 (drop 8 xs) (rw (long .0) at (both .1)) in
-    ap₂ _∷_ first (pack-only s (λ i l. b (suc i) (omega arith)) (drop 8 xs) (long .1) rest)
+    ap₂ _∷_ first (bytes-only s (λ i l. b (suc i) (omega arith)) (drop 8 xs) (long .1) rest)
 
 -- zero bits stand exactly where the field is 0
 zeros-num : (s : List ℕ) (at m : ℕ) → Stands s at (replicate m false) → numAt s at m ≡ 0
@@ -135,26 +134,26 @@ module _ (bs : List Bool) where
   padded-length : length padded ≡ many * 8
   padded-length = length-append bs (replicate spare false) ∙ omega (arith, length-replicate spare false)
 
-  pub packed-stands : Stands (pack bs) 0 bs × (endsAt (pack bs) (length bs) ≡ true)
-  unfolding pack endsAt
-  packed-stands =
-      let whole = subst (λ (s : List ℕ). Stands s 0 padded) (pack-pad many bs spare) (pack-stands many padded padded-length) in
-      let both = stands-split (packBytes many bs) 0 bs (replicate spare false) whole in
+  pub in-bytes-stand : Stands (inBytes bs) 0 bs × (endsAt (inBytes bs) (length bs) ≡ true)
+  unfolding inBytes endsAt
+  in-bytes-stand =
+      let whole = subst (λ (s : List ℕ). Stands s 0 padded) (bytes-pad many bs spare) (bytes-stand many padded padded-length) in
+      let both = stands-split (nBytes many bs) 0 bs (replicate spare false) whole in
       let here : 0 + length bs ≡ length bs = omega arith in
-      let zero = zeros-num (packBytes many bs) (length bs) spare (rw here at (both .1)) in
-      (both .0, rw (eq-eqb (length (packBytes many bs)) many (pack-length many bs), eq-eqb _ 0 zero))
+      let zero = zeros-num (nBytes many bs) (length bs) spare (rw here at (both .1)) in
+      (both .0, rw (eq-eqb (length (nBytes many bs)) many (bytes-length many bs), eq-eqb _ 0 zero))
 
-  pub packed-bytes : Bytes (pack bs)
-  unfolding pack
-  packed-bytes = pack-bytes many bs
+  pub in-bytes-below : Bytes (inBytes bs)
+  unfolding inBytes
+  in-bytes-below = bytes-below many bs
 
-  pub packed-only : (s : List ℕ) → Bytes s → Stands s 0 bs → endsAt s (length bs) ≡ true → s ≡ pack bs
-  unfolding pack endsAt
-  packed-only s b h e =
+  pub in-bytes-only : (s : List ℕ) → Bytes s → Stands s 0 bs → endsAt s (length bs) ≡ true → s ≡ inBytes bs
+  unfolding inBytes endsAt
+  in-bytes-only s b h e =
       let both = and-true (eqb (length s) many) (eqb (numAt s (length bs) spare) 0) e in
       let long : length s ≡ many = eqb-true _ _ (both .0) in
       let here : 0 + length bs ≡ length bs = omega arith in
       let zeros = zeros-stand s (length bs) spare (omega arith) (eqb-true _ _ (both .1)) in
       let whole : Stands s 0 padded = stands-join s 0 bs (replicate spare false) h (rw here zeros) in
-      pack-only s b padded (padded-length ∙ ap (λ (n : ℕ). n * 8) (sym long)) whole
-      ∙ ap (λ (n : ℕ). packBytes n padded) long ∙ pack-pad many bs spare
+      bytes-only s b padded (padded-length ∙ ap (λ (n : ℕ). n * 8) (sym long)) whole
+      ∙ ap (λ (n : ℕ). nBytes n padded) long ∙ bytes-pad many bs spare

@@ -12,8 +12,8 @@ use Rattle.bits.proofs.FieldLaws.{Here}
 use Rattle.bits.proofs.ReadLaws.{ok-is, ok-next}
 use Rattle.reader.specs.Reading.{readHeader}
 use Rattle.reader.specs.declared.Header.{Header}
-use Rattle.rules.proofs.Stands.{Stands, field-stands, bits-read, put, cut}
-use Rattle.rules.proofs.Steps.{field-then, guard-then}
+use Rattle.format.proofs.Stands.{Stands, field-stands, bits-read, put, cut}
+use Rattle.format.proofs.Steps.{field-then, guard-then}
 
 -- the header's fields one behind the other
 abbrev pub headBits : Header → List Bool

@@ -16,7 +16,6 @@ use Rattle.condition.specs.Reading.{Counted, inputAt, behind, operandsAt, nodeA
 use Rattle.condition.proofs.Laws.{cond-went}
 use Rattle.reader.specs.Reading.{readHeader, rowAt, transitionAt, endsAt, readSheet}
 use Rattle.reader.proofs.Laws.{header-fits, row-next, transition-next, rows-next, transitions-next}
-use Rattle.sheet.specs.Judging.{judgeRead, checkSheet}
 
 module _ (s t : List ℕ) (same : (i : ℕ) → i < 4096 → getD t i 0 ≡ getD s i 0) (long : 4096 < length s) (cut : length t ≡ 4096) where
   num-same : (at w : ℕ) → at + w ≤ 32768 → numAt t at w ≡ numAt s at w
@@ -120,7 +119,7 @@ module _ (s t : List ℕ) (same : (i : ℕ) → i < 4096 → getD t i 0 ≡ getD
       let end : a3 ≤ 32760 = omega (arith, f .after, transitions-next s (h .states) (h .inputs) a2 (h .transitions) m e3) in
       rw (ends-same a3 end) refl
 
-read-first : (s : List ℕ) → readSheet (take 4096 s) ≡ readSheet s
+pub read-first : (s : List ℕ) → readSheet (take 4096 s) ≡ readSheet s
 read-first s = go (leb (length s) 4096) refl
   where
     go : (b : Bool) → leb (length s) 4096 ≡ b → readSheet (take 4096 s) ≡ readSheet s
@@ -128,7 +127,3 @@ read-first s = go (leb (length s) 4096) refl
     go false e =
         let long : 4096 < length s = leb-false (length s) 4096 e in
         cut-same s (take 4096 s) (λ i l. getD-take 4096 s i 0 l) long (length-take-le 4096 s (omega arith))
-
-pub first-bytes : (s : List ℕ) → checkSheet (take 4096 s) ≡ checkSheet s
-unfolding checkSheet
-first-bytes s = ap judgeRead (read-first s)

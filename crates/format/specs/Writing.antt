@@ -1,8 +1,8 @@
 -- The bytes of a sheet: its fields one behind the other, and zero bits up to the byte.
-use Prim.Native.Nat.{ℕ, zero, suc, _+_, _*_, _-_, _/_, _^_}
+use Prim.Native.Nat.{ℕ, zero, suc, _+_, _*_, _-_, _/_, _^_, _<_}
 use mathlib.Core.List.{List, [], _∷_, _++_}
 use mathlib.Core.Bool.{Bool}
-use lib.ListN.{length, drop}
+use lib.ListN.{length, getD, drop}
 use Rattle.bits.specs.Word.{bitNo, bitsOf}
 use Rattle.condition.specs.Cond.{condBits}
 use Rattle.reader.specs.Sheet.{Transition, Sheet, count}
@@ -31,16 +31,20 @@ numOf (suc w) [] = 0
 numOf (suc w) (b ∷ bs) = bitNo b * 2 ^ w + numOf w bs
 
 -- n bytes, eight bits to a byte
-unfoldable pub packBytes : ℕ → List Bool → List ℕ
-packBytes zero bs = []
-packBytes (suc n) bs = numOf 8 bs ∷ packBytes n (drop 8 bs)
+unfoldable pub nBytes : ℕ → List Bool → List ℕ
+nBytes zero bs = []
+nBytes (suc n) bs = numOf 8 bs ∷ nBytes n (drop 8 bs)
 
 -- "zero bits up to the byte, and nothing more"
-unfoldable pub pack : List Bool → List ℕ
-pack bs = packBytes ((length bs + 7) / 8) bs
+unfoldable pub inBytes : List Bool → List ℕ
+inBytes bs = nBytes ((length bs + 7) / 8) bs
 
 unfoldable pub sheetBits : Sheet → List Bool
 sheetBits a = headerBits a ++ rowsBits (a .rows) ++ transitionsBits (a .transitions)
 
 unfoldable pub sheetOf : Sheet → List ℕ
-sheetOf a = pack (sheetBits a)
+sheetOf a = inBytes (sheetBits a)
+
+-- s is a byte string
+abbrev pub Bytes : List ℕ → Type 0
+Bytes s = (i : ℕ) → i < length s → getD s i 0 < 256

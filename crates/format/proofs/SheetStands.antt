@@ -7,18 +7,18 @@ use native.Mathlib.Omega.{arith}
 use lib.ListN.{length, length-append}
 use Rattle.bits.specs.Read.{ok, upto}
 use Rattle.bits.proofs.ReadLaws.{ok-is, ok-next, upto-length}
+use Rattle.bits.proofs.WordLaws.{bits-length}
 use Rattle.reader.specs.Sheet.{Transition, Sheet, count, noTransition}
 use Rattle.reader.specs.Reading.{readHeader, rowAt, transitionAt, endsAt, readSheet}
 use Rattle.reader.specs.declared.Header.{Header}
-use Rattle.rules.specs.Rules.{Fields}
-use Rattle.rules.specs.Writing.{headerBits, rowsBits, transitionBits, transitionsBits, sheetBits}
-use Rattle.rules.proofs.Fits.{Fits}
-use Rattle.rules.proofs.BitNumbers.{bits-length, bits-num}
-use Rattle.rules.proofs.Stands.{Stands, stands-join, stands-split, stands-inside, field-stands, stands-read}
-use Rattle.rules.proofs.Steps.{field-then, bind-then, guard-then}
-use Rattle.rules.proofs.ListStands.{joinAll, Said, upto-said, upto-reads}
-use Rattle.rules.proofs.TransitionStands.{transition-said, transition-reads}
-use Rattle.rules.proofs.HeadStands.{headBits, HeadSaid, head-said, head-reads}
+use Rattle.format.specs.Fields.{Fields, WellFormed}
+use Rattle.format.specs.Writing.{headerBits, rowsBits, transitionBits, transitionsBits, sheetBits}
+use Rattle.format.proofs.BitNumbers.{bits-num}
+use Rattle.format.proofs.Stands.{Stands, stands-join, stands-split, stands-inside, field-stands, stands-read}
+use Rattle.format.proofs.Steps.{field-then, bind-then, guard-then}
+use Rattle.format.proofs.ListStands.{joinAll, Said, upto-said, upto-reads}
+use Rattle.format.proofs.TransitionStands.{transition-said, transition-reads}
+use Rattle.format.proofs.HeadStands.{headBits, HeadSaid, head-said, head-reads}
 
 -- a row of l outputs is a field
 row-said : (s : List ℕ) (l at : ℕ) (row : List Bool) (next : ℕ) → rowAt s l at ≡ ok row next → Said s (λ r. r) (λ r. length r ≡ l) at row next
@@ -55,7 +55,7 @@ head-length h = simp (length-append, bits-length)
 
 -- what a sheet that was read says
 pub record SheetSaid (s : List ℕ) (a : Sheet) (end : ℕ) : Type 0 where
-  pub fits : Fits a
+  pub formed : WellFormed a
   pub stands : Stands s 0 (sheetBits a)
   pub after : end ≡ length (sheetBits a)
   pub ends : endsAt s end ≡ true
@@ -88,7 +88,7 @@ module _ (s : List ℕ) where
       (subst (λ (m : ℕ). Stands s m (joinAll transitionBits ts)) (r .after) (t .stands)) in
       let here : a1 ≡ 0 + length (headBits (headOf a)) = omega (arith, said .after, head-length (headOf a)) in
       record {
-        fits = record {
+        formed = record {
           states = said .states;
           inputs = said .inputs;
           outputs = said .outputs;
@@ -112,21 +112,21 @@ module _ (s : List ℕ) where
       guard-then (endsAt s a3) _ _ k3 λ g k4.
       subst₂ (SheetSaid s) (ok-is k4) (ok-next k4) (parts-said h a1 rows a2 ts a3 (head-said s h a1 e1) e2 e3 g)
 
-  rows-read : (a : Sheet) → Fits a → (at : ℕ) → Stands s at (joinAll (λ r. r) (a .rows))
+  rows-read : (a : Sheet) → WellFormed a → (at : ℕ) → Stands s at (joinAll (λ r. r) (a .rows))
       → upto (rowAt s (a .outputs)) at (a .states) ≡ ok (a .rows) (at + length (joinAll (λ r. r) (a .rows)))
   rows-read a f at h =
       subst (λ (n : ℕ). upto (rowAt s (a .outputs)) at n ≡ ok (a .rows) (at + length (joinAll (λ r. r) (a .rows)))) (f .rows)
       (upto-reads s (rowAt s (a .outputs)) (λ r. r) (λ r. length r ≡ a .outputs) [] at (row-reads s (a .outputs)) (a .rows)
       (λ i l. f .row i (omega (arith, f .rows))) h)
 
-  transitions-read : (a : Sheet) → Fits a → (at : ℕ) → Stands s at (joinAll transitionBits (a .transitions))
+  transitions-read : (a : Sheet) → WellFormed a → (at : ℕ) → Stands s at (joinAll transitionBits (a .transitions))
       → upto (transitionAt s (a .states) (a .inputs)) at (count a) ≡ ok (a .transitions) (at + length (joinAll transitionBits (a .transitions)))
   transitions-read a f at h =
       upto-reads s (transitionAt s (a .states) (a .inputs)) transitionBits (Fields (a .states) (a .inputs)) noTransition at
       (λ b t q st. transition-reads s (a .states) (a .inputs) b (f .states .1) (f .inputs .1) t q st) (a .transitions) (f .fields) h
 
-  -- a sheet that fits is read where its bits stand and nothing follows them
-  pub sheet-reads : (a : Sheet) → Fits a → Stands s 0 (sheetBits a) → endsAt s (length (sheetBits a)) ≡ true → readSheet s ≡ ok a (length (sheetBits a))
+  -- a well-formed sheet is read where its bits stand and nothing follows them
+  pub sheet-reads : (a : Sheet) → WellFormed a → Stands s 0 (sheetBits a) → endsAt s (length (sheetBits a)) ≡ true → readSheet s ≡ ok a (length (sheetBits a))
   unfolding readSheet
   sheet-reads a f h g =
       let rows = joinAll (λ r. r) (a .rows) in

@@ -13,8 +13,8 @@ use Rattle.bits.proofs.FieldLaws.{Here}
 use Rattle.condition.specs.Cond.{Cond, inp, neg, conj, disj, nodes, depth, condBits}
 use Rattle.condition.specs.Reading.{Counted, counted, inputAt, operandsAt, nodeAt, condAt}
 use Rattle.condition.proofs.TreeLaws.{tree-ind}
-use Rattle.rules.specs.Rules.{InputsBelow}
-use Rattle.rules.proofs.Stands.{Stands, stands-join, stands-split, field-stands, bits-read}
+use Rattle.format.specs.Fields.{InputsBelow}
+use Rattle.format.proofs.Stands.{Stands, stands-join, stands-split, field-stands, bits-read}
 
 -- what a condition that was read says: from `at` on behind `seen` nodes, with n nodes after it and the next bit
 pub record CondSaid (s : List ℕ) (k room at seen : ℕ) (t : Cond) (n next : ℕ) : Type 0 where

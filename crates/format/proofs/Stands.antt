@@ -11,8 +11,9 @@ use Rattle.bits.specs.Word.{bitNo, bitsOf}
 use Rattle.bits.specs.Read.{ok, readField}
 use Rattle.bits.proofs.FieldLaws.{bit-lt, num-join, Here}
 use Rattle.bits.proofs.ReadLaws.{read-here}
-use Rattle.rules.specs.Writing.{numOf}
-use Rattle.rules.proofs.BitNumbers.{bit-is, bits-length, bits-num, num-bits}
+use Rattle.bits.proofs.WordLaws.{bits-length}
+use Rattle.format.specs.Writing.{numOf}
+use Rattle.format.proofs.BitNumbers.{bit-is, bits-num, num-bits}
 
 -- the bits xs stand in the bytes s from `at` on, and are wholly there
 abbrev pub Stands : List ℕ → ℕ → List Bool → Type 0

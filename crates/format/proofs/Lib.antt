@@ -1,0 +1,11 @@
+pub mod BitNumbers
+pub mod Stands
+pub mod CondStands
+pub mod ListStands
+pub mod Steps
+pub mod TransitionStands
+pub mod HeadStands
+pub mod SheetStands
+pub mod InBytes
+pub mod FirstBytes
+pub mod Format
