@@ -24,6 +24,7 @@ use Rattle.promises.specs.Length.{wordsOf, LengthRule}
 use Rattle.promises.specs.Ignored.{InputsIgnored}
 use Rattle.promises.specs.Held.{HeldChangesNone}
 use Rattle.promises.specs.Worthless.{NoInventedRoom, OneRunner}
+use Rattle.translate.proofs.SingleProof.{translates-is}
 use Rattle.same.proofs.AcceptedLaws.{scan-is, cold-scan-is, cold-run-is}
 use Rattle.same.proofs.CheckProof.{check-code}
 use Rattle.moves.proofs.MovesProof.{moves-scan, moves-only}
@@ -118,7 +119,7 @@ length-rule s acc =
 
 pub no-invented-room : NoInventedRoom
 no-invented-room f is s buffer place e other =
-    let h = refusals .room s buffer place .0 (ap (λ (w : Written). w .answer .verdict) (sym (is s buffer)) ∙ e) in
+    let h = refusals .room s buffer place .0 (ap (λ (w : Written). w .answer .verdict) (sym (translates-is s buffer (f s buffer) (is s buffer))) ∙ e) in
     let r = accepted-rules s (h .3) in
     let same : h .0 ≡ r .0 = ok-is (sym (h .2) ∙ r .2) in
     other (r .0, r .1, r .2, h .5 ∙ ap (λ a. length (codeOf a)) same ∙ bytes-are (r .0) (r .3))
