@@ -9,6 +9,7 @@
  *     room N for BYTES gives NUMBER at PLACE chz_translate with N bytes of room
  *     state N on BYTES gives NUMBER at PLACE chz_scan from that state
  *     word N BYTES ...                       the words of M's code, in order
+ *     hex BYTES, and below it bits ...       a ruler: the same in both
  *
  * BYTES are in hex, or `(no bytes)`. Every number from 1 to 18 must be given
  * by one example at least.
@@ -26,7 +27,7 @@ static uint8_t m[64];
 static size_t m_len;
 static uint8_t words[4096];
 static size_t words_len;
-static int line_number, examples, wrong;
+static int line_number, examples, rulers, wrong;
 static int seen[CHZ_NO_STATE + 1];
 
 static void complain(const char *line, const char *what)
@@ -71,6 +72,22 @@ static uint32_t ask(const char *kind, uint32_t with, uint32_t *place)
     return chz_scan(bytes, len, &state, &outputs, &clock, 0, 0, place);
 }
 
+/* The bits of a ruler: those of the bytes in the line above. */
+static void take_bits(const char *line, const char *at)
+{
+    for (size_t i = 0; i < 8 * len; i++) {
+        if (i % 8 == 0) {
+            at += strspn(at, " ");
+        }
+        if (*at != (bytes[i / 8] >> (7 - i % 8) & 1 ? '1' : '0')) {
+            complain(line, "not the bits of the bytes above");
+            return;
+        }
+        at++;
+    }
+    rulers++;
+}
+
 static void take_line(const char *line)
 {
     char kind[8];
@@ -81,6 +98,14 @@ static void take_line(const char *line)
         return;
     }
     const char *at = line + used;
+    if (strcmp(kind, "hex") == 0) {
+        take_bytes(at);
+        return;
+    }
+    if (strcmp(kind, "bits") == 0) {
+        take_bits(line, at);
+        return;
+    }
     if (strcmp(kind, "word") == 0) {
         if (sscanf(at, "%u %n", &with, &used) != 1 || (take_bytes(at + used), len != 4)) {
             return; /* prose that begins with the word */
@@ -144,6 +169,6 @@ int main(void)
         printf("the words in docs/REFERENCE.md are not those of M\n");
         wrong++;
     }
-    printf("%d examples of docs/REFERENCE.md and the %zu words of M: %d wrong\n", examples, words_len / 4, wrong);
+    printf("docs/REFERENCE.md: %d examples, %d rulers, %zu words of M, %d wrong\n", examples, rulers, words_len / 4, wrong);
     return wrong == 0 ? 0 : 1;
 }
