@@ -22,6 +22,10 @@ fi
 $CC -std=c11 -Wall -Wextra -Werror "$out/readme/first.c" $flags -o "$to/first" || fault 'the program does not build'
 ${RUN:-} "$to/first" <"$root/examples/two-contact.sheet" | diff "$out/readme/shown" - || fault 'the program says something else'
 
+# One version: the header's, from which the pkg-config file has it, and the program's.
+version=$(sed -n 's/^Version: //p' "$to/lib/pkgconfig/chmurzeta.pc")
+[ "chz $version" = "$("$to/bin/chz" version)" ] || fault "the header is version $version, and the program is not"
+
 # A good sheet, a refused one, and a fault of usage: statuses 0, 1 and 2.
 cd "$root" || exit 2
 for words in version 'check examples/door.sheet' 'check /dev/null' check; do
