@@ -59,12 +59,13 @@
  * the second, plus the third. Between two versions
  *
  *   - the third goes up where nothing that a caller can see has changed;
- *   - the second where calls or numbers were added. A call may then refuse
- *     with a number that it hadn't before: treat every number but 0 as a
- *     refusal, also one that isn't listed below;
- *   - the first where a call takes other arguments, a number or its place has
- *     another meaning, or the same bytes get another answer. Until version
- *     1.0.0 this raises the second.
+ *   - the second where calls were added, with the numbers that they answer;
+ *   - the first where a call that was there takes other arguments, the same
+ *     bytes get another answer, or a number or its place has another meaning.
+ *     Until version 1.0.0 this raises the second.
+ *
+ * Numbers may be added in any but the third. So treat every number but 0 as a
+ * refusal, also one that isn't listed below.
  *
  * Firmware can say which headers it was written for:
  *
