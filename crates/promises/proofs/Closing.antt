@@ -24,7 +24,8 @@ use Rattle.promises.specs.Length.{wordsOf, LengthRule}
 use Rattle.promises.specs.Ignored.{InputsIgnored}
 use Rattle.promises.specs.Held.{HeldChangesNone}
 use Rattle.promises.specs.Worthless.{NoInventedRoom, OneRunner}
-use Rattle.translate.proofs.SingleProof.{translates-is}
+use Rattle.translate.specs.declared.Translated.{Translated}
+use Rattle.answer.specs.Number.{numberOf, placeOf}
 use Rattle.same.proofs.AcceptedLaws.{scan-is, cold-scan-is, cold-run-is}
 use Rattle.same.proofs.CheckProof.{check-code}
 use Rattle.moves.proofs.MovesProof.{moves-scan, moves-only}
@@ -32,7 +33,7 @@ use Rattle.same.proofs.FollowsProof.{run-is, follows}
 use Rattle.promises.proofs.Demand3Proof.{with-room, code-in}
 use Rattle.promises.proofs.LengthProof.{bytes-are, fitted, at-most}
 use Rattle.promises.proofs.IgnoredProof.{scan-ignores, run-ignores}
-use Rattle.promises.proofs.RefusalsProof.{refusals}
+use Rattle.refusals.proofs.RefusalsProof.{refusals}
 
 -- DEMAND 3
 pub demand3 : Demand3 translateInto runCode
@@ -119,7 +120,8 @@ length-rule s acc =
 
 pub no-invented-room : NoInventedRoom
 no-invented-room f is s buffer place e other =
-    let h = refusals .room s buffer place .0 (ap (λ (w : Written). w .answer .verdict) (sym (translates-is s buffer (f s buffer) (is s buffer))) ∙ e) in
+    let told : f s buffer .answer .verdict ≡ translateInto s buffer .answer .verdict = ap (λ (t : Translated). t .verdict) (is s buffer .answer) in
+    let h = refusals .room s buffer place .0 (ap numberOf (sym told) ∙ e .0, ap placeOf (sym told) ∙ e .1) in
     let r = accepted-rules s (h .3) in
     let same : h .0 ≡ r .0 = ok-is (sym (h .2) ∙ r .2) in
     other (r .0, r .1, r .2, h .5 ∙ ap (λ a. length (codeOf a)) same ∙ bytes-are (r .0) (r .3))

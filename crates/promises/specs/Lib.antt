@@ -5,8 +5,4 @@ pub mod Ignored
 pub mod Table
 pub mod Worthless
 pub mod Single
-pub mod WordFaults
-pub mod Fields
-pub mod Refusals
-pub mod Left
 pub mod Held

@@ -4,7 +4,6 @@ use mathlib.Core.Path.{_≡_}
 use mathlib.Core.List.{List, [], _∷_}
 use Prim.Native.Nat.{ℕ, _<_}
 use Rattle.answer.specs.declared.Refusal.{Refusal}
-use Rattle.answer.specs.declared.Refusal.the-variants.{Room}
 use Rattle.answer.specs.declared.Checked.{Checked}
 use Rattle.answer.specs.declared.Checked.the-variants.{Accepted, Refused}
 use Rattle.bits.specs.Read.{ok}
@@ -18,6 +17,7 @@ use Rattle.machine.specs.Run.{runCode}
 use Rattle.translate.specs.Writing.{codeOf, translateInto, Translates}
 use Rattle.same.specs.Histories.{Tick, Runner, runAfter}
 use Rattle.promises.specs.Demand3.{Translator, codeIn, Demand3}
+use Rattle.refusals.specs.Refusals.{Numbered}
 use Rattle.promises.specs.Length.{LengthOf}
 
 -- programs that meet the contracts of the two checkers and of the translator, whatever they are given
@@ -70,7 +70,7 @@ pub record Worthless : Type 0 where
 -- "ROOM with a place invented: the length rule above, under demand 2": the place is the length by the rule, and no other number
 abbrev pub NoInventedRoom : Type 0
 NoInventedRoom =
-    (f : Translator) → TranslatesAll f → (s buffer : List ℕ) (place : ℕ) → f s buffer .answer .verdict ≡ Refused (Room place)
+    (f : Translator) → TranslatesAll f → (s buffer : List ℕ) (place : ℕ) → Numbered (f s buffer .answer .verdict) 14 place
     → (LengthOf s place → ⊥) → ⊥
 
 -- and every wrong runner: whatever meets demand 3 with the translator has, on any accepted sheet and after any scans, the record that `runCode` has

@@ -13,7 +13,7 @@ use Rattle.answer.specs.declared.Found.{Found}
 use Rattle.answer.specs.declared.Found.the-variants.{At, Nothing}
 use Rattle.answer.specs.Lowest.{anyBelow, orAt, firstBelow, refuseAt}
 use Rattle.answer.specs.Number.{number, place}
-use Rattle.promises.specs.Refusals.{Lowest}
+use Rattle.refusals.specs.Refusals.{Lowest}
 
 pub true-false : {b : Bool} → b ≡ true → b ≡ false → ⊥
 true-false e f = let z : _≡_ {A = ℕ} 0 1 = cc in omega arith

@@ -17,9 +17,9 @@ use Rattle.answer.specs.declared.Found.the-variants.{At, Nothing}
 use Rattle.answer.specs.Lowest.{refuseAt}
 use Rattle.words.specs.Word.{Word, END, known, decode, words}
 use Rattle.faults.specs.Check.{endFault, opens, faulty, unknown, hereOr, firstFault, depthAt, landsOpen, firstLanding, checkCode}
-use Rattle.promises.specs.Refusals.{Lowest, CodeFault, code-end, word, landing}
-use Rattle.promises.proofs.WordFaultProof.{or-of, word-fault, landing-fault}
-use Rattle.promises.proofs.LowestLaws.{FirstOf, From, lowest-end, lowest-step, lowest-all}
+use Rattle.refusals.specs.Refusals.{Lowest, CodeFault, code-end, word, landing}
+use Rattle.refusals.proofs.WordFaultProof.{or-of, word-fault, landing-fault}
+use Rattle.refusals.proofs.LowestLaws.{FirstOf, From, lowest-end, lowest-step, lowest-all}
 
 -- a test of places in a list, one place further on
 abbrev Later : (ℕ → Bool) → ℕ → Bool

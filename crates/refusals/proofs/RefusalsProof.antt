@@ -11,7 +11,7 @@ use Rattle.answer.specs.declared.Refusal.{Refusal}
 use Rattle.answer.specs.declared.Refusal.the-variants as refuse
 use Rattle.answer.specs.declared.Checked.{Checked}
 use Rattle.answer.specs.declared.Checked.the-variants.{Accepted, Refused}
-use Rattle.answer.specs.Number.{number}
+use Rattle.answer.specs.Number.{number, place, numberOf, placeOf}
 use Rattle.bits.specs.Read.{Ans, ok, no}
 use Rattle.reader.specs.Sheet.{Sheet}
 use Rattle.reader.specs.Reading.{readSheet}
@@ -20,40 +20,23 @@ use Rattle.scan.specs.declared.State.{State}
 use Rattle.scan.specs.declared.Scanned.{Scanned}
 use Rattle.scan.specs.Scan.{accepted, refused, scanOf, scanSheet}
 use Rattle.translate.specs.Writing.{Written, codeOf, unwritten, writtenWith, translateInto}
-use Rattle.promises.specs.Refusals.{Lowest, SheetFault, Unread, Refusals}
+use Rattle.refusals.specs.Refusals as says
+use Rattle.refusals.specs.Refusals.{Lowest, SheetFault, Unread, Refusals}
 use Rattle.same.proofs.AcceptedLaws.{accepted-refused, refused-is, with-sheet, translate-is}
-use Rattle.promises.proofs.JudgeProof.{to-13, judge-lowest}
-use Rattle.promises.proofs.CodeFaultProof.{code-lowest}
-use Rattle.promises.proofs.ReadProof.{unread}
-use Rattle.promises.proofs.ExactlyProof.{exactly}
+use Rattle.refusals.proofs.NumberLaws.{refusalOf, answer-is}
+use Rattle.refusals.proofs.JudgeProof.{to-13, judge-lowest}
+use Rattle.refusals.proofs.CodeFaultProof.{code-lowest}
+use Rattle.refusals.proofs.ReadProof.{unread}
+use Rattle.refusals.proofs.ExactlyProof.{exactly}
 
 -- reading gives 1 to 6
-unread-number : (s : List ℕ) (why : Refusal) → Unread s why → number why ≤ 6
-unread-number s (refuse.Short i) h = omega arith
-unread-number s refuse.OneState h = omega arith
-unread-number s (refuse.StateNo i) h = omega arith
-unread-number s (refuse.InputNo i) h = omega arith
-unread-number s (refuse.Big i) h = omega arith
-unread-number s (refuse.Tail i) h = omega arith
-unread-number s (refuse.Loop i) h = absurd h
-unread-number s (refuse.Pair i) h = absurd h
-unread-number s (refuse.Rank i) h = absurd h
-unread-number s (refuse.NoHome i) h = absurd h
-unread-number s (refuse.HomeForm i) h = absurd h
-unread-number s (refuse.Gate i) h = absurd h
-unread-number s (refuse.Activity i) h = absurd h
-unread-number s (refuse.Room i) h = absurd h
-unread-number s refuse.CodeEnd h = absurd h
-unread-number s (refuse.Word i) h = absurd h
-unread-number s (refuse.Landing i) h = absurd h
-unread-number s (refuse.NoState i) h = absurd h
-unread-number s (refuse.Text i) h = absurd h
-unread-number s (refuse.Unused i) h = absurd h
-unread-number s (refuse.Weights i) h = absurd h
-unread-number s refuse.Steps h = absurd h
-unread-number s (refuse.IdleWait i) h = absurd h
-unread-number s (refuse.Foreign i) h = absurd h
-unread-number s (refuse.Field i) h = absurd h
+unread-number : (s : List ℕ) (n p : ℕ) → Unread s n p → n ≤ 6
+unread-number s n p (says.short e f b l) = omega arith
+unread-number s n p (says.one-state e z w h) = omega arith
+unread-number s n p (says.state-no e i b w h) = omega arith
+unread-number s n p (says.input-no e i b w h) = omega arith
+unread-number s n p (says.big e i seen depth b w h) = omega arith
+unread-number s n p (says.tail e b h) = omega arith
 
 -- the check of sheets gives none above 13
 judge-number : (a : Sheet) (why : Refusal) → judge a ≡ Refused why → 14 ≤ number why → ⊥
@@ -82,32 +65,38 @@ high verdict s refuse go why refuses h e = by (readSheet s) refl e
     by (ok a end) r e = judged a end (judge a) refl r e
     by (no q) r e =
         let same : q ≡ why = refused-is (sym (refuses q) ∙ e) in
-        absurd (let low : number q ≤ 6 = unread-number s q (unread s q r) in omega (arith, ap number same))
+        absurd (let low : number q ≤ 6 = unread-number s (number q) (place q) (unread s q r) in omega (arith, ap number same))
 
 pub refusals : Refusals
-unfolding checkSheet translateInto scanSheet
+unfolding checkSheet translateInto scanSheet refusalOf
 refusals = record {
   unread = λ s why e. (unread s why e, rw e refl);
   exactly = exactly;
   read = λ s a end e. rw e (judge-lowest a);
   code = code-lowest;
   room = λ s buffer bytes. (
-    λ e.
+    λ n.
+        let e : translateInto s buffer .answer .verdict ≡ Refused (refuse.Room bytes) = answer-is _ 14 bytes (omega arith) (n .0) (n .1) in
         let h = high (λ (w : Written). w .answer .verdict) s (unwritten buffer) _ (refuse.Room bytes) (λ r. refl) (omega arith) e in
         let r = room-of buffer (h .0) bytes (leb (length (codeOf (h .0))) (length buffer)) refl (h .4) in
         (h .0, h .1, h .2, h .3, r .0, r .1),
     λ h.
+        let e : translateInto s buffer .answer .verdict ≡ Refused (refuse.Room bytes) =
         ap (λ (w : Written). w .answer .verdict) (translate-is s (h .0) (h .1) (h .2) (h .3) buffer)
-        ∙ rw (lt-leb (length (codeOf (h .0))) (length buffer) (omega (arith, h .4, h .5)), h .5) refl,
+        ∙ rw (lt-leb (length (codeOf (h .0))) (length buffer) (omega (arith, h .4, h .5)), h .5) refl in
+        (ap numberOf e, ap placeOf e),
   );
   no-state = λ s q word elapsed state. (
-    λ e.
+    λ n.
+        let e : scanSheet s q word elapsed .verdict ≡ Refused (refuse.NoState state) = answer-is _ 18 state (omega arith) (n .0) (n .1) in
         let h = high (λ (v : Scanned). v .verdict) s (refused q) _ (refuse.NoState state) (λ r. refl) (omega arith) e in
         let r = state-of (h .0) q word elapsed state (ltb (q .state) (h .0 .states)) refl (h .4) in
         (h .0, h .1, h .2, h .3, r .0, r .1),
     λ h.
+        let e : scanSheet s q word elapsed .verdict ≡ Refused (refuse.NoState state) =
         ap (λ (v : Scanned). v .verdict) (with-sheet s (h .0) (h .1) (h .2) (h .3) (refused q) _)
-        ∙ rw (le-ltb (q .state) (h .0 .states) (omega (arith, h .4, h .5)), h .5) refl,
+        ∙ rw (le-ltb (q .state) (h .0 .states) (omega (arith, h .4, h .5)), h .5) refl in
+        (ap numberOf e, ap placeOf e),
   );
 }
   where

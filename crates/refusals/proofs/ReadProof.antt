@@ -9,6 +9,7 @@ use native.Mathlib.Omega.{arith}
 use borrow.Author.Tests.{leb-true, leb-false, ltb-true, ltb-false, eqb-true, eqb-false, not-true, not-false}
 use lib.Dec.{leb, ltb, eqb}
 use lib.ListN.{length}
+use Rattle.answer.specs.Number.{number, place}
 use Rattle.answer.specs.declared.Refusal.{Refusal}
 use Rattle.answer.specs.declared.Refusal.the-variants as refuse
 use Rattle.bits.specs.Field.{numAt}
@@ -19,7 +20,7 @@ use Rattle.condition.specs.Reading.{Counted, inputAt, behind, operandsAt, nodeA
 use Rattle.reader.specs.Sheet.{Transition}
 use Rattle.reader.specs.Reading.{readHeader, rowAt, transitionAt, endsAt, readSheet}
 use Rattle.reader.specs.declared.Header.{Header}
-use Rattle.promises.specs.Fields.{
+use Rattle.refusals.specs.Fields.{
   nOf,
   kOf,
   lOf,
@@ -57,19 +58,20 @@ use Rattle.promises.specs.Fields.{
   next-source,
   at-rest,
 }
-use Rattle.promises.specs.Refusals.{Unread}
+use Rattle.refusals.specs.Refusals as says
+use Rattle.refusals.specs.Refusals.{Unread}
 
 module _ (s : List ℕ) where
   -- what holds of a refusal, if an answer is one
   abbrev On : {A : Type 0} → Ans A → Type 0
   On (ok a next) = Unit {0}
-  On (no why) = Unread s why
+  On (no why) = Unread s (number why) (place why)
 
   bind-on : {A B : Type 0} (x : Ans A) (f : A → ℕ → Ans B) → On x → ((a : A) (m : ℕ) → x ≡ ok a m → On (f a m)) → On (bind x f)
   bind-on (ok a m) f h g = g a m refl
   bind-on (no why) f h g = h
 
-  guard-on : {A : Type 0} (t : Bool) (why : Refusal) (x : Ans A) → (t ≡ false → Unread s why) → (t ≡ true → On x) → On (guard t why x)
+  guard-on : {A : Type 0} (t : Bool) (why : Refusal) (x : Ans A) → (t ≡ false → Unread s (number why) (place why)) → (t ≡ true → On x) → On (guard t why x)
   guard-on true why x h g = g refl
   guard-on false why x h g = h refl
 
@@ -86,7 +88,7 @@ module _ (s : List ℕ) where
     where
       go : (t : Bool) → leb (at + width s f) (length s * 8) ≡ t → On (readField s (width s f) at)
       go true e = rw (read-here s (width s f) at (leb-true (at + width s f) (length s * 8) e)) tt
-      go false e = rw (read-short s (width s f) at (leb-false (at + width s f) (length s * 8) e)) (f, b, leb-false (at + width s f) (length s * 8) e)
+      go false e = rw (read-short s (width s f) at (leb-false (at + width s f) (length s * 8) e)) (says.short refl f b (leb-false (at + width s f) (length s * 8) e))
 
   -- the same place, known otherwise
   moved : (f : Field) {x y : ℕ} → y ≡ x → Begins s f x → Begins s f y
@@ -167,7 +169,7 @@ module _ (s : List ℕ) where
   header-on =
       bind-on (readField s 5 0) _ (field-on states at-states) λ n a1 e1.
       guard-on (not (eqb n 0)) refuse.OneState _
-      (λ f. (whole states 0 e1, sym (field-read s 5 0 e1 .value) ∙ eqb-true n 0 (not-false _ f))) λ g.
+      (λ f. says.one-state refl refl (whole states 0 e1) (sym (field-read s 5 0 e1 .value) ∙ eqb-true n 0 (not-false _ f))) λ g.
       let at5 : a1 ≡ 5 = field-read s 5 0 e1 .after in
       let b1 = to-inputs e1 g in
       bind-on (readField s 4 a1) _ (field-on inputs b1) λ k a2 e2.
@@ -256,7 +258,7 @@ module _ (s : List ℕ) where
     input-on seen at b =
         bind-on (readField s 4 at) _ (field-on (input i) b) λ v next e.
         guard-on (ltb v (kOf s)) (refuse.InputNo at) _
-        (λ f. (i, b, whole (input i) at e, omega (arith, field-read s 4 at e .value, ltb-false v (kOf s) f))) λ f.
+        (λ f. says.input-no refl i b (whole (input i) at e) (omega (arith, field-read s 4 at e .value, ltb-false v (kOf s) f))) λ f.
         tt
 
     -- a node whose tag was read and is judged well, `room` levels left for its operands
@@ -287,7 +289,8 @@ module _ (s : List ℕ) where
 
       node-on : (full leaf : Bool) (seen at v next : ℕ) → leb 31 seen ≡ full → eqb v 0 ≡ leaf → Begins s (tag i seen depth) at → readField s 2 at ≡ ok v next
           → On (nodeAt full leaf (condAt room s (kOf s)) s (kOf s) v seen at next)
-      node-on true leaf seen at v next f g b e = (i, seen, depth, b, whole (tag i seen depth) at e, inl (leb-true 31 seen f))
+      node-on true leaf seen at v next f g b e =
+          says.big refl i seen depth b (whole (tag i seen depth) at e) (inl (leb-true 31 seen f))
       node-on false true seen at v next f g b e =
           let here = field-read s 2 at e in
           let zero : numAt s at 2 ≡ 0 = sym (here .value) ∙ eqb-true v 0 g in
@@ -299,7 +302,7 @@ module _ (s : List ℕ) where
     unfolding condAt
     cond-on zero depth e seen at b =
         bind-on (readField s 2 at) _ (field-on (tag i seen depth) b)
-        (λ v next f. (i, seen, depth, b, whole (tag i seen depth) at f, inr (omega arith)))
+        (λ v next f. says.big refl i seen depth b (whole (tag i seen depth) at f) (inr (omega arith)))
     cond-on (suc room) depth e seen at b =
         bind-on (readField s 2 at) _ (field-on (tag i seen depth) b)
         (λ v next f. node-on room depth e (cond-on room (depth + 1) (omega arith)) (leb 31 seen) (eqb v 0) seen at v next refl refl b f)
@@ -309,11 +312,11 @@ module _ (s : List ℕ) where
     transition-on at b =
         bind-on (readField s 5 at) _ (field-on (source i) b) λ from a1 e1.
         guard-on (ltb from (nOf s)) (refuse.StateNo at) _
-        (λ f. (i, inl b, whole (source i) at e1, omega (arith, field-read s 5 at e1 .value, ltb-false from (nOf s) f))) λ g1.
+        (λ f. says.state-no refl i (inl b) (whole (source i) at e1) (omega (arith, field-read s 5 at e1 .value, ltb-false from (nOf s) f))) λ g1.
         let b1 = to-destination i at b e1 g1 in
         bind-on (readField s 5 a1) _ (field-on (destination i) b1) λ to a2 e2.
         guard-on (ltb to (nOf s)) (refuse.StateNo a1) _
-        (λ f. (i, inr b1, whole (destination i) a1 e2, omega (arith, field-read s 5 a1 e2 .value, ltb-false to (nOf s) f))) λ g2.
+        (λ f. says.state-no refl i (inr b1) (whole (destination i) a1 e2) (omega (arith, field-read s 5 a1 e2 .value, ltb-false to (nOf s) f))) λ g2.
         let b2 = to-priority i a1 b1 e2 g2 in
         bind-on (readField s 7 a2) _ (field-on (priority i) b2) λ p a3 e3.
         let b3 = to-wait i a2 b2 e3 in
@@ -322,13 +325,13 @@ module _ (s : List ℕ) where
         tt
 
   -- the two reasons of TAIL
-  tail-of : (at : ℕ) → Begins s rest at → endsAt s at ≡ false → Unread s (refuse.Tail at)
+  tail-of : (at : ℕ) → Begins s rest at → endsAt s at ≡ false → Unread s 6 at
   unfolding endsAt
   tail-of at b e = go (eqb (length s) ((at + 7) / 8)) refl e
     where
-      go : (t : Bool) → eqb (length s) ((at + 7) / 8) ≡ t → t && eqb (numAt s at ((at + 7) / 8 * 8 - at)) 0 ≡ false → Unread s (refuse.Tail at)
-      go true f e = (b, inr (eqb-false _ 0 e))
-      go false f e = (b, inl (eqb-false _ _ f))
+      go : (t : Bool) → eqb (length s) ((at + 7) / 8) ≡ t → t && eqb (numAt s at ((at + 7) / 8 * 8 - at)) 0 ≡ false → Unread s 6 at
+      go true f e = says.tail refl b (inr (eqb-false _ 0 e))
+      go false f e = says.tail refl b (inl (eqb-false _ _ f))
 
   -- what follows the header, which says the numbers of the bytes
   rows-told : (n l a : ℕ) → n ≡ nOf s → l ≡ lOf s → a ≡ 20 → Begins s (row 0) 20 → On (upto (rowAt s l) a n)
@@ -361,5 +364,5 @@ module _ (s : List ℕ) where
       tt
 
   -- what is read to be refused
-  pub unread : (why : Refusal) → readSheet s ≡ no why → Unread s why
+  pub unread : (why : Refusal) → readSheet s ≡ no why → Unread s (number why) (place why)
   unread why e = rw e at sheet-on

@@ -15,8 +15,8 @@ use Rattle.condition.specs.Cond.{Cond, inp, neg, conj, disj, isOn, isOff, isGat
 use Rattle.reader.specs.Sheet.{Transition, Sheet, count, transitionOf}
 use Rattle.rules.specs.Rules.{HomeForm, Gated}
 use Rattle.sheet.specs.Judging.{loops, samePair, sameRank, clashes, goesHome, lacksHome, lacksHomeForm, lacksGate, differs, wrongActivity, judge}
-use Rattle.promises.specs.Refusals.{Lowest, SheetFault, loop, pair, rank, no-home, home-form, gate, activity}
-use Rattle.promises.proofs.LowestLaws.{true-false, any-of, From, lowest-end, lowest-below, lowest-all}
+use Rattle.refusals.specs.Refusals.{Lowest, SheetFault, loop, pair, rank, no-home, home-form, gate, activity}
+use Rattle.refusals.proofs.LowestLaws.{true-false, any-of, From, lowest-end, lowest-below, lowest-all}
 
 both : (a b : Bool) → a && b ≡ true → (a ≡ true) × (b ≡ true)
 both true b e = (refl, e)

@@ -1,5 +1,5 @@
 -- Numbers 1 to 6 are given exactly there: where a field begins and its fault is found, reading refuses with it. Assumes nothing.
-use mathlib.Core.Path.{_≡_, refl, _∙_}
+use mathlib.Core.Path.{_≡_, refl, _∙_, sym}
 use mathlib.Core.Logic.{_⊎_, inl, inr}
 use mathlib.Core.Bool.{Bool, true, false, _&&_}
 use mathlib.Core.List.{List, []}
@@ -8,6 +8,7 @@ use native.Mathlib.Omega.{arith}
 use borrow.Author.Tests.{lt-ltb, le-ltb, le-leb, lt-leb, ne-eqb}
 use lib.Dec.{ltb, eqb}
 use lib.ListN.{length}
+use Rattle.answer.specs.Number.{number, place}
 use Rattle.answer.specs.declared.Refusal.{Refusal}
 use Rattle.answer.specs.declared.Refusal.the-variants as refuse
 use Rattle.bits.specs.Field.{numAt}
@@ -19,7 +20,7 @@ use Rattle.condition.proofs.Laws.{cond-went}
 use Rattle.reader.specs.Sheet.{Transition}
 use Rattle.reader.specs.Reading.{readHeader, rowAt, transitionAt, endsAt, readSheet}
 use Rattle.reader.specs.declared.Header.{Header}
-use Rattle.promises.specs.Fields.{
+use Rattle.refusals.specs.Fields.{
   nOf,
   kOf,
   lOf,
@@ -57,7 +58,9 @@ use Rattle.promises.specs.Fields.{
   next-source,
   at-rest,
 }
-use Rattle.promises.specs.Refusals.{Unread}
+use Rattle.sheet.specs.Judging.{checkSheet}
+use Rattle.refusals.specs.Refusals as says
+use Rattle.refusals.specs.Refusals.{Unread, Numbered}
 
 module _ (s : List ℕ) where
   -- a refusal of this part is one of the sheet
@@ -313,33 +316,21 @@ module _ (s : List ℕ) where
   tail at r e = let b = r .0 in rw (b .above .header, b .above .read, b .read, e) refl
 
   -- what is unread is refused so
-  pub exactly : (why : Refusal) → Unread s why → readSheet s ≡ no why
-  exactly (refuse.Short at) u = short (u .0) at (reached (u .0) at (u .1)) (u .2)
-  exactly refuse.OneState u = one-state (u .0) (u .1)
-  exactly (refuse.StateNo at) u = state-no (u .0) at (go (u .0) (u .1)) (u .2) (u .3)
-    where
-      go : (i : ℕ) → Begins s (source i) at ⊎ Begins s (destination i) at → Reached (source i) at ⊎ Reached (destination i) at
-      go i (inl b) = inl (reached (source i) at b)
-      go i (inr b) = inr (reached (destination i) at b)
-  exactly (refuse.InputNo at) u = input-no (u .0) at (reached (input (u .0)) at (u .1)) (u .2) (u .3)
-  exactly (refuse.Big at) u = big (u .0) (u .1) (u .2) at (reached (tag (u .0) (u .1) (u .2)) at (u .3)) (u .4) (u .5)
-  exactly (refuse.Tail at) u = tail at (reached rest at (u .0)) (not-end at (u .1))
-  exactly (refuse.Loop i) u = absurd u
-  exactly (refuse.Pair i) u = absurd u
-  exactly (refuse.Rank i) u = absurd u
-  exactly (refuse.NoHome i) u = absurd u
-  exactly (refuse.HomeForm i) u = absurd u
-  exactly (refuse.Gate i) u = absurd u
-  exactly (refuse.Activity i) u = absurd u
-  exactly (refuse.Room i) u = absurd u
-  exactly refuse.CodeEnd u = absurd u
-  exactly (refuse.Word i) u = absurd u
-  exactly (refuse.Landing i) u = absurd u
-  exactly (refuse.NoState i) u = absurd u
-  exactly (refuse.Text i) u = absurd u
-  exactly (refuse.Unused i) u = absurd u
-  exactly (refuse.Weights i) u = absurd u
-  exactly refuse.Steps u = absurd u
-  exactly (refuse.IdleWait i) u = absurd u
-  exactly (refuse.Foreign i) u = absurd u
-  exactly (refuse.Field i) u = absurd u
+  -- a field that a number names was reached
+  named : (i at : ℕ) → Begins s (source i) at ⊎ Begins s (destination i) at → Reached (source i) at ⊎ Reached (destination i) at
+  named i at (inl b) = inl (reached (source i) at b)
+  named i at (inr b) = inr (reached (destination i) at b)
+
+  -- what is refused in reading where this number is said of this place
+  refused : (n p : ℕ) → Unread s n p → (why : Refusal) × (readSheet s ≡ no why) × (number why ≡ n) × (place why ≡ p)
+  refused n p (says.short e f b l) = (refuse.Short p, short f p (reached f p b) l, sym e, refl)
+  refused n p (says.one-state e z w h) = (refuse.OneState, one-state w h, sym e, sym z)
+  refused n p (says.state-no e i b w h) = (refuse.StateNo p, state-no i p (named i p b) w h, sym e, refl)
+  refused n p (says.input-no e i b w h) = (refuse.InputNo p, input-no i p (reached (input i) p b) w h, sym e, refl)
+  refused n p (says.big e i seen depth b w h) =
+      (refuse.Big p, big i seen depth p (reached (tag i seen depth) p b) w h, sym e, refl)
+  refused n p (says.tail e b h) = (refuse.Tail p, tail p (reached rest p b) (not-end p h), sym e, refl)
+
+  pub exactly : (n p : ℕ) → Unread s n p → Numbered (checkSheet s) n p
+  unfolding checkSheet
+  exactly n p u = let r = refused n p u in rw (r .1) (r .2, r .3)

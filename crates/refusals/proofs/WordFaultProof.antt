@@ -11,7 +11,7 @@ use Rattle.words.specs.Word.{Word, codeNo, operand, wordNo, known, decode}
 use Rattle.faults.specs.Check.{strays, faulty, unknown, depthAt, landsOpen}
 use Rattle.words.proofs.WordLaws.{by-first}
 use Rattle.faults.proofs.CheckLaws as check
-use Rattle.promises.specs.WordFaults.{OneOf, WordFault, no-code, spare, flag, variable, jump, closing, ninth, inside}
+use Rattle.refusals.specs.WordFaults.{OneOf, WordFault, no-code, spare, flag, variable, jump, closing, ninth, inside}
 
 -- tests joined
 pub or-of : (a b : Bool) → a || b ≡ true → (a ≡ true) ⊎ (b ≡ true)

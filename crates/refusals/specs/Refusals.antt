@@ -7,10 +7,9 @@ use Prim.Native.Nat.{ℕ, _+_, _*_, _-_, _/_, _%_, _≤_, _<_}
 use lib.Dec.{eqb}
 use lib.ListN.{length, getD}
 use Rattle.answer.specs.declared.Refusal.{Refusal}
-use Rattle.answer.specs.declared.Refusal.the-variants as refuse
 use Rattle.answer.specs.declared.Checked.{Checked}
 use Rattle.answer.specs.declared.Checked.the-variants.{Accepted, Refused}
-use Rattle.answer.specs.Number.{number, place}
+use Rattle.answer.specs.Number.{number, place, numberOf, placeOf}
 use Rattle.bits.specs.Field.{numAt}
 use Rattle.bits.specs.Read.{ok, no}
 use Rattle.reader.specs.Sheet.{Sheet, count, transitionOf, rowOf}
@@ -22,8 +21,8 @@ use Rattle.scan.specs.Scan.{scanSheet}
 use Rattle.words.specs.Word.{decode, words}
 use Rattle.faults.specs.Check.{depthAt, checkCode}
 use Rattle.translate.specs.Writing.{codeOf, translateInto}
-use Rattle.promises.specs.WordFaults.{OneOf, WordFault}
-use Rattle.promises.specs.Fields.{Field, states, source, destination, tag, input, rest, width, Whole, Begins, nOf, kOf}
+use Rattle.refusals.specs.WordFaults.{OneOf, WordFault}
+use Rattle.refusals.specs.Fields.{Field, states, source, destination, tag, input, rest, width, Whole, Begins, nOf, kOf}
 
 -- "the lowest number first, and within it the lowest place": an answer to faults, each with a number and a place
 abbrev pub Lowest : (ℕ → ℕ → Type 0) → Checked → Type 0
@@ -71,55 +70,40 @@ pub data CodeFault (s : List ℕ) (n p : ℕ) : Type 0 where
       → 0 < depthAt 0 (map decode (words s)) (operandOf (getD (words s) p 0)) → CodeFault s n p
 
 -- 1 to 6, of bytes that can't be read: the field that begins at the place, and what is found there
-abbrev pub Unread : List ℕ → Refusal → Type 0
--- "a field isn't wholly there"; its first bit
-Unread s (refuse.Short bit) = (f : Field) × Begins s f bit × (length s * 8 < bit + width s f)
--- "states field is 0"; 0
-Unread s refuse.OneState = Whole s states 0 × (numAt s 0 5 ≡ 0)
--- "a transition names a state n or above"; first bit of that field
-Unread s (refuse.StateNo bit) = (i : ℕ) × (Begins s (source i) bit ⊎ Begins s (destination i) bit) × (bit + 5 ≤ length s * 8) × (nOf s ≤ numAt s bit 5)
--- "a condition names an input k or above"; first bit of the number
-Unread s (refuse.InputNo bit) = (i : ℕ) × Begins s (input i) bit × Whole s (input i) bit × (kOf s ≤ numAt s bit 4)
--- "a 32nd node, or a node at depth 9"; first bit of its tag
-Unread s (refuse.Big bit) =
-    (i seen depth : ℕ) × Begins s (tag i seen depth) bit × Whole s (tag i seen depth) bit × ((31 ≤ seen) ⊎ (depth ≡ 9))
--- "a spare bit is 1, or a further byte follows"; first bit after the last condition
-Unread s (refuse.Tail bit) =
-    Begins s rest bit × ((length s ≡ (bit + 7) / 8 → ⊥) ⊎ (numAt s bit ((bit + 7) / 8 * 8 - bit) ≡ 0 → ⊥))
--- reading gives no other number
-Unread s (refuse.Loop transition) = ⊥
-Unread s (refuse.Pair transition) = ⊥
-Unread s (refuse.Rank transition) = ⊥
-Unread s (refuse.NoHome state) = ⊥
-Unread s (refuse.HomeForm transition) = ⊥
-Unread s (refuse.Gate transition) = ⊥
-Unread s (refuse.Activity state) = ⊥
-Unread s (refuse.Room bytes) = ⊥
-Unread s refuse.CodeEnd = ⊥
-Unread s (refuse.Word at) = ⊥
-Unread s (refuse.Landing at) = ⊥
-Unread s (refuse.NoState state) = ⊥
-Unread s (refuse.Text line) = ⊥
-Unread s (refuse.Unused number) = ⊥
-Unread s (refuse.Weights row) = ⊥
-Unread s refuse.Steps = ⊥
-Unread s (refuse.IdleWait transition) = ⊥
-Unread s (refuse.Foreign at) = ⊥
-Unread s (refuse.Field index) = ⊥
+pub data Unread (s : List ℕ) (n p : ℕ) : Type 0 where
+  -- "a field isn't wholly there"; its first bit
+  short : n ≡ 1 → (f : Field) → Begins s f p → length s * 8 < p + width s f → Unread s n p
+  -- "states field is 0"; 0
+  one-state : n ≡ 2 → p ≡ 0 → Whole s states 0 → numAt s 0 5 ≡ 0 → Unread s n p
+  -- "a transition names a state n or above"; first bit of that field
+  state-no : n ≡ 3 → (i : ℕ) → Begins s (source i) p ⊎ Begins s (destination i) p → p + 5 ≤ length s * 8 → nOf s ≤ numAt s p 5
+      → Unread s n p
+  -- "a condition names an input k or above"; first bit of the number
+  input-no : n ≡ 4 → (i : ℕ) → Begins s (input i) p → Whole s (input i) p → kOf s ≤ numAt s p 4 → Unread s n p
+  -- "a 32nd node, or a node at depth 9"; first bit of its tag
+  big : n ≡ 5 → (i seen depth : ℕ) → Begins s (tag i seen depth) p → Whole s (tag i seen depth) p → (31 ≤ seen) ⊎ (depth ≡ 9)
+      → Unread s n p
+  -- "a spare bit is 1, or a further byte follows"; first bit after the last condition
+  tail : n ≡ 6 → Begins s rest p → (length s ≡ (p + 7) / 8 → ⊥) ⊎ (numAt s p ((p + 7) / 8 * 8 - p) ≡ 0 → ⊥) → Unread s n p
+
+-- an answer with this number and this place
+abbrev pub Numbered : Checked → ℕ → ℕ → Type 0
+Numbered c n p = (numberOf c ≡ n) × (placeOf c ≡ p)
 
 pub record Refusals : Type 0 where
-  -- a sheet is refused in reading, or read to its end and judged by the lowest fault
-  pub unread : (s : List ℕ) (why : Refusal) → readSheet s ≡ no why → Unread s why × (checkSheet s ≡ Refused why)
+  -- a sheet that is refused in reading has one of 1 to 6, and the check's answer is that
+  pub unread : (s : List ℕ) (why : Refusal) → readSheet s ≡ no why → Unread s (number why) (place why) × (checkSheet s ≡ Refused why)
   -- and 1 to 6 are given exactly there
-  pub exactly : (s : List ℕ) (why : Refusal) → Unread s why → readSheet s ≡ no why
+  pub exactly : (s : List ℕ) (n p : ℕ) → Unread s n p → Numbered (checkSheet s) n p
+  -- a sheet that is read to its end is judged by the lowest fault
   pub read : (s : List ℕ) (a : Sheet) (end : ℕ) → readSheet s ≡ ok a end → Lowest (SheetFault a) (checkSheet s)
   -- code is judged by the lowest fault
   pub code : (s : List ℕ) → Lowest (CodeFault s) (checkCode s)
   -- 14 is given exactly where the sheet is accepted and its code needs more bytes than the buffer has: "bytes needed"
   pub room : (s buffer : List ℕ) (bytes : ℕ)
-      → (translateInto s buffer .answer .verdict ≡ Refused (refuse.Room bytes))
+      → Numbered (translateInto s buffer .answer .verdict) 14 bytes
       ↔ ((a : Sheet) × (end : ℕ) × (readSheet s ≡ ok a end) × (checkSheet s ≡ Accepted) × (length buffer < bytes) × (bytes ≡ length (codeOf a)))
   -- 18 is given exactly where the sheet is accepted and the state is n or above: "the state"
   pub no-state : (s : List ℕ) (q : State) (word elapsed state : ℕ)
-      → (scanSheet s q word elapsed .verdict ≡ Refused (refuse.NoState state))
+      → Numbered (scanSheet s q word elapsed .verdict) 18 state
       ↔ ((a : Sheet) × (end : ℕ) × (readSheet s ≡ ok a end) × (checkSheet s ≡ Accepted) × (a .states ≤ state) × (state ≡ q .state))

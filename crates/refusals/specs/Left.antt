@@ -6,17 +6,17 @@ use mathlib.Core.List.{List, _++_}
 use Prim.Native.Nat.{ℕ}
 use lib.ListN.{length, drop}
 use Rattle.answer.specs.declared.Refusal.{Refusal}
-use Rattle.answer.specs.declared.Refusal.the-variants.{Room, NoState}
+use Rattle.answer.specs.Number.{number, place}
 use Rattle.answer.specs.declared.Checked.the-variants.{Accepted, Refused}
 use Rattle.bits.specs.Read.{ok}
 use Rattle.reader.specs.Sheet.{Sheet}
 use Rattle.reader.specs.Reading.{readSheet}
 use Rattle.sheet.specs.Judging.{checkSheet}
 use Rattle.scan.specs.declared.State.{State}
-use Rattle.scan.specs.Scan.{scanSheet, coldScan}
+use Rattle.scan.specs.Scan.{zeros, scanSheet, coldScan}
 use Rattle.machine.specs.declared.Record.{Record}
 use Rattle.faults.specs.Check.{checkCode}
-use Rattle.machine.specs.Run.{runCode}
+use Rattle.machine.specs.Run.{recordWith, runCode}
 use Rattle.translate.specs.Writing.{codeOf, translateInto, coldRun}
 
 pub record Left : Type 0 where
@@ -35,17 +35,17 @@ pub record Left : Type 0 where
       × (translateInto s buffer .answer .length ≡ length (codeOf a))
   -- "A cold start refused for its sheet returns a record of zeros."
   pub cold-scan : (s : List ℕ) (why : Refusal) → coldScan s .verdict ≡ Refused why
-      → coldScan s .«record» ≡ record { state = 0; outputs = 0; clock = 0 }
+      → coldScan s .«record» ≡ zeros
   pub cold-run : (s : List ℕ) (why : Refusal) → coldRun s .verdict ≡ Refused why
-      → coldRun s .«record» ≡ record { flags = 0; outputs = 0; clock = 0 }
+      → coldRun s .«record» ≡ recordWith 0 0 0
   -- a refused sheet gets the same number and place from all; the cold starts answer as the check does, and the other two have 18 and 14 besides
   pub sheet-cold-scan : (s : List ℕ) → coldScan s .verdict ≡ checkSheet s
   pub sheet-cold-run : (s : List ℕ) → coldRun s .verdict ≡ checkSheet s
   pub sheet-scan : (s : List ℕ) (q : State) (word elapsed : ℕ) (why : Refusal)
       → (checkSheet s ≡ Refused why → scanSheet s q word elapsed .verdict ≡ Refused why)
-      × (scanSheet s q word elapsed .verdict ≡ Refused why → (checkSheet s ≡ Refused why) ⊎ (why ≡ NoState (q .state)))
+      × (scanSheet s q word elapsed .verdict ≡ Refused why → (checkSheet s ≡ Refused why) ⊎ ((number why ≡ 18) × (place why ≡ q .state)))
   pub sheet-translate : (s buffer : List ℕ) (why : Refusal)
       → (checkSheet s ≡ Refused why → translateInto s buffer .answer .verdict ≡ Refused why)
-      × (translateInto s buffer .answer .verdict ≡ Refused why → (checkSheet s ≡ Refused why) ⊎ ((bytes : ℕ) × (why ≡ Room bytes)))
+      × (translateInto s buffer .answer .verdict ≡ Refused why → (checkSheet s ≡ Refused why) ⊎ (number why ≡ 14))
   -- and faulty code the check's from the runner
   pub code-run : (code : List ℕ) (r : Record) (word elapsed : ℕ) → runCode code r word elapsed .verdict ≡ checkCode code

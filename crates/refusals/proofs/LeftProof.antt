@@ -11,6 +11,7 @@ use lib.Dec.{leb, ltb}
 use lib.ListN.{length, drop}
 use lib.Seq.{sets-eq}
 use Rattle.answer.specs.declared.Refusal.{Refusal}
+use Rattle.answer.specs.Number.{number, place}
 use Rattle.answer.specs.declared.Refusal.the-variants.{Room, NoState}
 use Rattle.answer.specs.declared.Checked.{Checked}
 use Rattle.answer.specs.declared.Checked.the-variants.{Accepted, Refused}
@@ -23,10 +24,10 @@ use Rattle.scan.specs.declared.Scanned.{Scanned}
 use Rattle.scan.specs.Scan.{accepted, refused, scanOf, coldOf, scanSheet, coldScan, zeros}
 use Rattle.machine.specs.declared.Record.{Record}
 use Rattle.faults.specs.Check.{checkCode}
-use Rattle.machine.specs.Run.{ranBy, runCode}
+use Rattle.machine.specs.Run.{recordWith, ranBy, runCode}
 use Rattle.translate.specs.declared.Cold.{Cold}
 use Rattle.translate.specs.Writing.{Written, codeOf, unwritten, writtenWith, translateInto, coldRecord, noRecord, coldRun}
-use Rattle.promises.specs.Left.{Left}
+use Rattle.refusals.specs.Left.{Left}
 use Rattle.same.proofs.AcceptedLaws.{accepted-refused, refused-is}
 
 -- A call goes on with an accepted sheet, or refuses with the check's refusal.
@@ -178,18 +179,18 @@ left = record {
       rest-is of-scan s (refused zeros) (λ a. accepted (coldOf a)) (λ why. refl) (λ (v : Scanned). v .«record») zeros (λ why. refl)
       (λ a why e. absurd (accepted-refused refl e));
   cold-run = λ s.
-      rest-is of-cold s noRecord cold-of (λ why. refl) (λ (v : Cold). v .«record») (record { flags = 0; outputs = 0; clock = 0 }) (λ why. refl)
+      rest-is of-cold s noRecord cold-of (λ why. refl) (λ (v : Cold). v .«record») (recordWith 0 0 0) (λ why. refl)
       (λ a why e. absurd (accepted-refused refl e));
   sheet-cold-scan = λ s. same-verdict of-scan s (refused zeros) (λ a. accepted (coldOf a)) (λ why. refl) (λ a. refl);
   sheet-cold-run = λ s. same-verdict of-cold s noRecord cold-of (λ why. refl) (λ a. refl);
   sheet-scan = λ s q word elapsed why. (
     sheet-refused of-scan s (refused q) (scanned q word elapsed) (λ why. refl) why,
-    λ e. ⊎-elim (λ c. inl c) (λ h. inr (scan-left q word elapsed (h .0) why (h .1) .1))
+    λ e. ⊎-elim (λ c. inl c) (λ h. let e = scan-left q word elapsed (h .0) why (h .1) .1 in inr (ap number e, ap place e))
         (whose of-scan s (refused q) (scanned q word elapsed) (λ why. refl) why e),
   );
   sheet-translate = λ s buffer why. (
     sheet-refused of-written s (unwritten buffer) (wrote buffer) (λ why. refl) why,
-    λ e. ⊎-elim (λ c. inl c) (λ h. inr (length (codeOf (h .0)), room-left buffer (h .0) why (h .1) .1))
+    λ e. ⊎-elim (λ c. inl c) (λ h. inr (ap number (room-left buffer (h .0) why (h .1) .1)))
         (whose of-written s (unwritten buffer) (wrote buffer) (λ why. refl) why e),
   );
   code-run = λ code r word elapsed. run-left (checkCode code) code r word elapsed;
