@@ -36,21 +36,30 @@ fn gathered(s: &[u8], at: usize, width: usize, stop: usize) -> u64
     ((first * 256 + third) * 256 + second) * 256 + last
 }
 
-// The field of `width` bits from the cursor on, cut out of the bytes that it is in.
+// The number that the `width` bits from `at` on are, where they are there: cut out of the bytes that they are in.
+pub fn number(s: &[u8], at: usize, width: usize) -> u32
+    requires { ⌜ (at < 1000000) × (1 ≤ width) × (width ≤ 24) × (at + width ≤ length (now s) * 8) ⌝ }
+    ensures { λ r. ⌜ r ≡ numAt (now (s .entry)) at width ⌝ }
+{
+    let end = at + width;
+    let stop = (end + 7) / 8;
+    let all = gathered(s, at, width, stop);
+    let spare = stop * 8 - end;
+    let one: u64 = 1;
+    ((all >> spare) % (one << width)) as u32
+}
+
+// The field of `width` bits from the cursor on.
 pub fn field(s: &[u8], c: Cursor, width: usize) -> Got
     requires { ⌜ (c .at < 1000000) × (1 ≤ width) × (width ≤ 24) ⌝ }
     ensures { λ r. ⌜ r ≡ fieldAt (now (s .entry)) (c .at) width ⌝ }
 {
     let at = c.at;
     let end = at + width;
-    let stop = (end + 7) / 8;
-    if s.len() < stop {
+    if s.len() < (end + 7) / 8 {
         return Got::Short;
     }
-    let all = gathered(s, at, width, stop);
-    let spare = stop * 8 - end;
-    let one: u64 = 1;
-    Got::Field(((all >> spare) % (one << width)) as u32, Cursor { at: end })
+    Got::Field(number(s, at, width), Cursor { at: end })
 }
 
 // Whether bit i of the word is 1.

@@ -1,7 +1,7 @@
 // One stored case: the call is made, and its whole answer is compared. A case is its 48 bytes of fields, the bytes given,
 // and the bytes of code answered.
 use answer::Checked;
-use code::Record;
+use machine::Record;
 use scan::Scanned;
 use scan::State;
 ghost use Prim.Native.Nat.{_<_};
@@ -143,7 +143,7 @@ fn scan_call_agrees(fields: &[u8], sheet: &[u8]) -> bool {
 }
 
 fn run_call_agrees(fields: &[u8], code: &[u8]) -> bool {
-    let r = code::run(code, record_given(fields), half(fields, 2), word(fields, 8));
+    let r = machine::run(code, record_given(fields), half(fields, 2), word(fields, 8));
     let verdict = r.verdict;
     let record = r.record;
     run_agrees(fields, verdict, record)
@@ -154,7 +154,7 @@ pub fn agrees(fields: &[u8], given: &[u8], written: &[u8]) -> bool {
     let call = byte_at(fields, 0);
     match call {
         1 => verdict_agrees(fields, sheet::check_sheet(given)),
-        2 => verdict_agrees(fields, code::check_code(given)),
+        2 => verdict_agrees(fields, faults::check_code(given)),
         3 => translation_agrees(fields, given, written),
         4 => cold_scan_agrees(fields, given),
         5 => cold_run_agrees(fields, given),

@@ -3,8 +3,8 @@ use crate::say;
 use crate::tally;
 use crate::tally::Tally;
 use answer::Checked;
-use code::Ran;
-use code::Record;
+use machine::Ran;
+use machine::Record;
 use reader::How;
 use scan::Scanned;
 use scan::State;
@@ -211,7 +211,7 @@ fn run_reaches(
         outputs: outputs,
         clock: clock,
     };
-    comes_to(code::run(code, given, inputs, elapsed), flags, after)
+    comes_to(machine::run(code, given, inputs, elapsed), flags, after)
 }
 
 // P12 by the code.
@@ -220,7 +220,7 @@ fn runs(sheet: &[u8], code: &[u8]) -> bool {
     let mut record = cold.record;
     let mut i: usize = 0;
     while i < 8 {
-        let r = code::run(code, record, INPUTS[i], TIMES[i]);
+        let r = machine::run(code, record, INPUTS[i], TIMES[i]);
         if !comes_to(r, FLAGS[i], CLOCKS[i]) {
             return false;
         }

@@ -5,7 +5,7 @@ use crate::text::put;
 use crate::trace;
 use crate::trace::Line;
 use answer::Checked;
-use code::Record;
+use machine::Record;
 use scan::State;
 
 // How a trace goes on or ends.
@@ -118,7 +118,7 @@ fn scanned(p: Play, sheet: &[u8], code: &[u8]) -> Play {
     let state = p.state;
     let word = low_word(line.inputs);
     let elapsed = low_time(line.ms);
-    let ran = code::run(code, record, word, elapsed);
+    let ran = machine::run(code, record, word, elapsed);
     let referred = scan::scan(sheet, state, word, elapsed);
     let made = ran.verdict;
     let meant = referred.verdict;

@@ -13,20 +13,22 @@ use Rattle.rules.proofs.Acceptance.{accepted-rules}
 use Rattle.rules.proofs.Counting.{homes-few, pairs-few, weighed}
 use Rattle.scan.specs.declared.Scanned.{Scanned}
 use Rattle.scan.specs.Scan.{scanOf, scanSheet}
-use Rattle.code.specs.Run.{runCode}
+use Rattle.machine.specs.Run.{runCode}
 use Rattle.translate.specs.declared.Cold.{Cold}
 use Rattle.translate.specs.Writing.{Written, codeOf, translateInto}
-use Rattle.promises.specs.Same.{embed}
+use Rattle.same.specs.Same.{embed}
 use Rattle.promises.specs.Moves.{MovesAsPublished, OneMove}
-use Rattle.promises.specs.Demand3.{refAfter, runAfter, codeIn, Demand3}
+use Rattle.same.specs.Histories.{refAfter, runAfter}
+use Rattle.promises.specs.Demand3.{codeIn, Demand3}
 use Rattle.promises.specs.Length.{wordsOf, LengthRule}
 use Rattle.promises.specs.Ignored.{InputsIgnored}
 use Rattle.promises.specs.Held.{HeldChangesNone}
 use Rattle.promises.specs.Worthless.{NoInventedRoom, OneRunner}
-use Rattle.promises.proofs.AcceptedLaws.{scan-is, cold-scan-is, cold-run-is}
-use Rattle.promises.proofs.CheckProof.{check-code}
-use Rattle.promises.proofs.MovesProof.{moves-scan, moves-only}
-use Rattle.promises.proofs.Demand3Proof.{run-is, follows, with-room, code-in}
+use Rattle.same.proofs.AcceptedLaws.{scan-is, cold-scan-is, cold-run-is}
+use Rattle.same.proofs.CheckProof.{check-code}
+use Rattle.moves.proofs.MovesProof.{moves-scan, moves-only}
+use Rattle.same.proofs.FollowsProof.{run-is, follows}
+use Rattle.promises.proofs.Demand3Proof.{with-room, code-in}
 use Rattle.promises.proofs.LengthProof.{bytes-are, fitted, at-most}
 use Rattle.promises.proofs.IgnoredProof.{scan-ignores, run-ignores}
 use Rattle.promises.proofs.RefusalsProof.{refusals}

@@ -15,8 +15,8 @@ use Rattle.answer.specs.declared.Checked.the-variants.{Accepted, Refused}
 use Rattle.answer.specs.declared.Found.{Found}
 use Rattle.answer.specs.declared.Found.the-variants.{At, Nothing}
 use Rattle.answer.specs.Lowest.{refuseAt}
-use Rattle.code.specs.Word.{Word, END, known, decode, words}
-use Rattle.code.specs.Check.{endFault, opens, faulty, unknown, hereOr, firstFault, depthAt, landsOpen, firstLanding, checkCode}
+use Rattle.words.specs.Word.{Word, END, known, decode, words}
+use Rattle.faults.specs.Check.{endFault, opens, faulty, unknown, hereOr, firstFault, depthAt, landsOpen, firstLanding, checkCode}
 use Rattle.promises.specs.Refusals.{Lowest, CodeFault, code-end, word, landing}
 use Rattle.promises.proofs.WordFaultProof.{or-of, word-fault, landing-fault}
 use Rattle.promises.proofs.LowestLaws.{FirstOf, From, lowest-end, lowest-step, lowest-all}

@@ -11,22 +11,23 @@ use Rattle.clock.specs.Onward.{onward}
 use Rattle.condition.specs.Cond.{Cond, inp, neg, conj, disj, eval}
 use Rattle.reader.specs.Sheet.{Transition, Sheet}
 use Rattle.reader.specs.Reading.{readSheet}
-use Rattle.rules.specs.Rules.{InputsBelow, Fields, Rules}
+use Rattle.format.specs.Fields.{InputsBelow, Fields}
+use Rattle.rules.specs.Rules.{Rules}
 use Rattle.sheet.specs.Judging.{checkSheet}
 use Rattle.scan.specs.declared.State.{State}
 use Rattle.scan.specs.Scan.{can, best, after, scanOf, scanSheet, refused}
 use Rattle.scan.proofs.AllLaws.{All}
-use Rattle.code.specs.declared.Record.{Record}
-use Rattle.code.specs.Word.{Word, END, LDS, LDI, NOT, ANDP, ORP, PAR, ANDT, R, S, RA, SA, JMPC, JMP, TRES}
-use Rattle.code.specs.Machine.{Out, Frame, andF, orF, join, exec, flagTo, outTo, withClock, runScan}
-use Rattle.code.specs.Run.{runCode}
+use Rattle.machine.specs.declared.Record.{Record}
+use Rattle.words.specs.Word.{Word, END, LDS, LDI, NOT, ANDP, ORP, PAR, ANDT, R, S, RA, SA, JMPC, JMP, TRES}
+use Rattle.machine.specs.Machine.{Mach, Out, Frame, andF, orF, join, exec, flagTo, outTo, withClock, runScan}
+use Rattle.machine.specs.Run.{machOf, recordOf, runCode}
 use Rattle.translate.specs.Translation.{translate}
 use Rattle.translate.specs.Writing.{codeOf}
-use Rattle.code.proofs.WordLaws.{decode-map}
+use Rattle.words.proofs.WordLaws.{decode-map}
 use Rattle.promises.specs.Ignored.{Agree}
-use Rattle.promises.proofs.AcceptedLaws.{with-sheet}
-use Rattle.promises.proofs.CheckProof.{fit, code-words, check-code}
-use Rattle.promises.proofs.EachLaws.{Each, Kinds, all-fields, each-code}
+use Rattle.same.proofs.AcceptedLaws.{with-sheet}
+use Rattle.same.proofs.CheckProof.{each-code, fit, code-words, check-code}
+use Rattle.same.proofs.EachLaws.{Each, all-fields}
 
 module _ (k x y : ℕ) (agree : Agree k x y) where
   -- a condition
@@ -62,7 +63,7 @@ module _ (k x y : ℕ) (agree : Agree k x y) where
   Reads TRES = Unit {0}
 
   -- the machine
-  exec-same : (is : List Word) → Each Reads is → (pc j : ℕ) (r : Record) (a : Bool) (st : List Frame) (n : ℕ)
+  exec-same : (is : List Word) → Each Reads is → (pc j : ℕ) (r : Mach) (a : Bool) (st : List Frame) (n : ℕ)
       → exec x pc is j r a st n ≡ exec y pc is j r a st n
   unfolding exec
   exec-same [] h pc j r a st n = refl
@@ -87,26 +88,23 @@ module _ (k x y : ℕ) (agree : Agree k x y) where
 
 module _ (a : Sheet) (rules : Rules a) (x y : ℕ) (agree : Agree (a .inputs) x y) (e : ℕ) where
   reads : Each (Reads (a .inputs) x y agree) (translate a)
-  reads = each-code a (Reads (a .inputs) x y agree) kinds rules
-    where
-      kinds : Kinds a (Reads (a .inputs) x y agree)
-      kinds = record {
-        input = λ i h. h;
-        turn = tt;
-        both = tt;
-        either = tt;
-        join = tt;
-        load = λ s h. tt;
-        wait = λ w h. tt;
-        leave = λ s h. tt;
-        enter = λ s h. tt;
-        go = λ d h. tt;
-        on = λ i h. tt;
-        off = λ i h. tt;
-        zeroed = tt;
-        done = tt;
-        end = tt;
-      }
+  reads = each-code a rules (Reads (a .inputs) x y agree) (record {
+    kinds = record {
+      input = λ i h. h;
+      turn = tt;
+      both = tt;
+      either = tt;
+      join = tt;
+      load = λ s h. tt;
+      leave = λ s h. tt;
+      enter = λ s h. tt;
+      go = λ d h. tt;
+    };
+    rows = record { on = λ i h. tt; off = λ i h. tt; done = tt };
+    wait = λ w h. tt;
+    zeroed = tt;
+    end = tt;
+  })
 
   pub scanOf-same : (q : State) → scanOf a q x e ≡ scanOf a q y e
   unfolding scanOf
@@ -121,5 +119,5 @@ module _ (a : Sheet) (rules : Rules a) (x y : ℕ) (agree : Agree (a .inputs) x 
   unfolding runCode runScan
   run-ignores r =
       rw (check-code a rules, code-words a rules, decode-map (translate a) (fit a rules))
-      (ap (λ (o : Out). record { verdict = Accepted; «record» = o .rec })
-      (exec-same (a .inputs) x y agree (translate a) reads 0 0 (withClock r (onward (r .clock) e)) false [] 0))
+      (ap (λ (o : Out). record { verdict = Accepted; «record» = recordOf (o .mach) })
+      (exec-same (a .inputs) x y agree (translate a) reads 0 0 (withClock (machOf r) (onward (r .clock) e)) false [] 0))

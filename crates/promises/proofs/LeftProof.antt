@@ -21,13 +21,13 @@ use Rattle.sheet.specs.Judging.{judge, checkSheet, judgedOr, readOr, withSheet}
 use Rattle.scan.specs.declared.State.{State}
 use Rattle.scan.specs.declared.Scanned.{Scanned}
 use Rattle.scan.specs.Scan.{accepted, refused, scanOf, coldOf, scanSheet, coldScan, zeros}
-use Rattle.code.specs.declared.Record.{Record}
-use Rattle.code.specs.Check.{checkCode}
-use Rattle.code.specs.Run.{ranBy, runCode}
+use Rattle.machine.specs.declared.Record.{Record}
+use Rattle.faults.specs.Check.{checkCode}
+use Rattle.machine.specs.Run.{ranBy, runCode}
 use Rattle.translate.specs.declared.Cold.{Cold}
 use Rattle.translate.specs.Writing.{Written, codeOf, unwritten, writtenWith, translateInto, coldRecord, noRecord, coldRun}
 use Rattle.promises.specs.Left.{Left}
-use Rattle.promises.proofs.AcceptedLaws.{accepted-refused, refused-is}
+use Rattle.same.proofs.AcceptedLaws.{accepted-refused, refused-is}
 
 -- A call goes on with an accepted sheet, or refuses with the check's refusal.
 data Called {B : Type 0} (s : List ℕ) (refuse : Refusal → B) (go : Sheet → B) (b : B) : Type 0 where

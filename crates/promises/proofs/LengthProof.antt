@@ -20,7 +20,7 @@ use Rattle.translate.specs.Writing.{codeOf, translateInto}
 use Rattle.translate.proofs.LengthLaws.{code-length, code-bytes}
 use Rattle.translate.proofs.RoomLaws.{block-words}
 use Rattle.promises.specs.Length.{wordsOf, mostWords, fitting}
-use Rattle.promises.proofs.AcceptedLaws.{translate-is}
+use Rattle.same.proofs.AcceptedLaws.{translate-is}
 use Rattle.promises.proofs.RoomLaws.{home-words}
 
 -- the sum is that of the blocks' words

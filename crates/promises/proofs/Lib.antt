@@ -1,11 +1,4 @@
-pub mod RunLaws
-pub mod SameProof
-pub mod EachLaws
 pub mod RoomLaws
-pub mod CheckProof
-pub mod MovesProof
-pub mod HomeProof
-pub mod AcceptedLaws
 pub mod LengthProof
 pub mod Demand3Proof
 pub mod IgnoredProof

@@ -21,7 +21,7 @@ use Rattle.scan.specs.declared.Scanned.{Scanned}
 use Rattle.scan.specs.Scan.{accepted, refused, scanOf, scanSheet}
 use Rattle.translate.specs.Writing.{Written, codeOf, unwritten, writtenWith, translateInto}
 use Rattle.promises.specs.Refusals.{Lowest, SheetFault, Unread, Refusals}
-use Rattle.promises.proofs.AcceptedLaws.{accepted-refused, refused-is, with-sheet, translate-is}
+use Rattle.same.proofs.AcceptedLaws.{accepted-refused, refused-is, with-sheet, translate-is}
 use Rattle.promises.proofs.JudgeProof.{to-13, judge-lowest}
 use Rattle.promises.proofs.CodeFaultProof.{code-lowest}
 use Rattle.promises.proofs.ReadProof.{unread}

@@ -19,12 +19,12 @@ use Rattle.sheet.specs.Table.{sheetM}
 use Rattle.scan.specs.declared.State.{State}
 use Rattle.scan.specs.declared.Scanned.{Scanned}
 use Rattle.scan.specs.Scan.{can, best, outputsOf, after, scanOf, coldOf, scanSheet, coldScan}
-use Rattle.code.specs.declared.Record.{Record}
-use Rattle.code.specs.Word.{codeNo, operand, wordNo, known, decode, bytesOf, toBytes, words}
-use Rattle.code.specs.Machine.{flagTo, outTo, exec, runScan}
-use Rattle.code.specs.Check.{endFault, opens, faulty, unknown, firstFault, depthAt, landsOpen, firstLanding, checkCode}
-use Rattle.code.specs.Run.{runCode}
-use Rattle.code.specs.Worked.{bytes, code11}
+use Rattle.machine.specs.declared.Record.{Record}
+use Rattle.words.specs.Word.{codeNo, operand, wordNo, known, decode, bytesOf, toBytes, words}
+use Rattle.machine.specs.Machine.{flagTo, outTo, exec, runScan}
+use Rattle.faults.specs.Check.{endFault, opens, faulty, unknown, firstFault, depthAt, landsOpen, firstLanding, checkCode}
+use Rattle.machine.specs.Run.{machOf, recordOf, runCode}
+use Rattle.words.specs.Worked.{bytes, code11}
 use Rattle.translate.specs.declared.Cold.{Cold}
 use Rattle.translate.specs.Translation.{
   condCode,
@@ -43,9 +43,9 @@ use Rattle.translate.specs.Translation.{
   translate,
 }
 use Rattle.translate.specs.Writing.{codeOf, translateInto, coldRecord, coldRun}
-use Rattle.promises.specs.Demand3.{Tick}
+use Rattle.same.specs.Histories.{Tick}
 use Rattle.promises.specs.Table.{twoContact, twoRows, twoArcs, twoSheet, scans, runs, state, flag, Table}
-use Rattle.promises.proofs.AcceptedLaws.{scan-is, cold-scan-is, cold-run-is}
+use Rattle.same.proofs.AcceptedLaws.{scan-is, cold-scan-is, cold-run-is}
 
 pub two-read : readSheet twoContact ≡ ok twoSheet 1319
 unfolding readSheet readHeader rowAt upto transitionAt endsAt twoContact twoSheet twoRows twoArcs condAt operandsAt inputAt fieldAt numAt bitAt getBit
@@ -78,7 +78,8 @@ two-decoded = refl
 
 -- a scan of the code, the code being checked
 two-run : (r : Record) (word elapsed : ℕ)
-    → runCode (codeOf twoSheet) r word elapsed ≡ record { verdict = Accepted; «record» = runScan (translate twoSheet) r word elapsed .rec }
+    → runCode (codeOf twoSheet) r word elapsed
+    ≡ record { verdict = Accepted; «record» = recordOf (runScan (translate twoSheet) (machOf r) word elapsed .mach) }
 unfolding runCode
 two-run r word elapsed = rw (two-checked, two-decoded) refl
 
@@ -88,7 +89,8 @@ scan-step : (q p : State) (t : Tick) (ts : List Tick) (rest : List State) → q 
 unfolding scans
 scan-step q p t ts rest lt e f = rw (two-scan q lt (t .word) (t .elapsed), e, f) refl
 
-run-step : (r u : Record) (t : Tick) (ts : List Tick) (rest : List Record) → runScan (translate twoSheet) r (t .word) (t .elapsed) .rec ≡ u
+run-step : (r u : Record) (t : Tick) (ts : List Tick) (rest : List Record)
+    → recordOf (runScan (translate twoSheet) (machOf r) (t .word) (t .elapsed) .mach) ≡ u
     → runs (codeOf twoSheet) u ts ≡ rest → runs (codeOf twoSheet) r (t ∷ ts) ≡ u ∷ rest
 unfolding runs
 run-step r u t ts rest e f = rw (two-run r (t .word) (t .elapsed), e, f) refl

@@ -7,10 +7,10 @@ use Prim.Native.Nat.{ℕ, _+_, _*_, _/_, _%_, _≤_, _<_}
 use native.Mathlib.Omega.{arith}
 use borrow.Author.Tests.{eqb-true, eq-eqb, leb-true, le-leb, ltb-true, ltb-false, lt-ltb, le-ltb}
 use lib.Dec.{eqb, leb, ltb}
-use Rattle.code.specs.Word.{Word, codeNo, operand, wordNo, known, decode}
-use Rattle.code.specs.Check.{strays, faulty, unknown, depthAt, landsOpen}
-use Rattle.code.proofs.WordLaws.{by-first}
-use Rattle.code.proofs.CheckLaws as check
+use Rattle.words.specs.Word.{Word, codeNo, operand, wordNo, known, decode}
+use Rattle.faults.specs.Check.{strays, faulty, unknown, depthAt, landsOpen}
+use Rattle.words.proofs.WordLaws.{by-first}
+use Rattle.faults.proofs.CheckLaws as check
 use Rattle.promises.specs.WordFaults.{OneOf, WordFault, no-code, spare, flag, variable, jump, closing, ninth, inside}
 
 -- tests joined

@@ -11,8 +11,8 @@ use Rattle.reader.specs.Reading.{readSheet}
 use Rattle.sheet.specs.Judging.{checkSheet}
 use Rattle.scan.specs.declared.State.{State}
 use Rattle.scan.specs.Scan.{scanSheet}
-use Rattle.code.specs.declared.Record.{Record}
-use Rattle.code.specs.Run.{runCode}
+use Rattle.machine.specs.declared.Record.{Record}
+use Rattle.machine.specs.Run.{runCode}
 use Rattle.translate.specs.Writing.{codeOf}
 
 abbrev pub Agree : ℕ → ℕ → ℕ → Type 0

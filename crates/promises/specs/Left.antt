@@ -14,9 +14,9 @@ use Rattle.reader.specs.Reading.{readSheet}
 use Rattle.sheet.specs.Judging.{checkSheet}
 use Rattle.scan.specs.declared.State.{State}
 use Rattle.scan.specs.Scan.{scanSheet, coldScan}
-use Rattle.code.specs.declared.Record.{Record}
-use Rattle.code.specs.Check.{checkCode}
-use Rattle.code.specs.Run.{runCode}
+use Rattle.machine.specs.declared.Record.{Record}
+use Rattle.faults.specs.Check.{checkCode}
+use Rattle.machine.specs.Run.{runCode}
 use Rattle.translate.specs.Writing.{codeOf, translateInto, coldRun}
 
 pub record Left : Type 0 where

@@ -19,8 +19,8 @@ use Rattle.rules.specs.Rules.{HomeForm, Gated}
 use Rattle.sheet.specs.Judging.{checkSheet}
 use Rattle.scan.specs.declared.State.{State}
 use Rattle.scan.specs.Scan.{scanSheet}
-use Rattle.code.specs.Word.{decode, words}
-use Rattle.code.specs.Check.{depthAt, checkCode}
+use Rattle.words.specs.Word.{decode, words}
+use Rattle.faults.specs.Check.{depthAt, checkCode}
 use Rattle.translate.specs.Writing.{codeOf, translateInto}
 use Rattle.promises.specs.WordFaults.{OneOf, WordFault}
 use Rattle.promises.specs.Fields.{Field, states, source, destination, tag, input, rest, width, Whole, Begins, nOf, kOf}

@@ -9,10 +9,10 @@ use Rattle.sheet.specs.Judging.{checkSheet}
 use Rattle.scan.specs.declared.State.{State}
 use Rattle.scan.specs.declared.Scanned.{Scanned}
 use Rattle.scan.specs.Scan.{scanSheet, coldScan}
-use Rattle.code.specs.declared.Record.{Record}
-use Rattle.code.specs.declared.Ran.{Ran}
-use Rattle.code.specs.Check.{checkCode}
-use Rattle.code.specs.Run.{runCode}
+use Rattle.machine.specs.declared.Record.{Record}
+use Rattle.machine.specs.declared.Ran.{Ran}
+use Rattle.faults.specs.Check.{checkCode}
+use Rattle.machine.specs.Run.{runCode}
 use Rattle.translate.specs.declared.Cold.{Cold}
 use Rattle.translate.specs.Writing.{Written, translateInto, coldRun}
 

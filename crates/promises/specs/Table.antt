@@ -17,12 +17,12 @@ use Rattle.sheet.specs.Table as sheets
 use Rattle.sheet.specs.Table.{sheetM}
 use Rattle.scan.specs.declared.State.{State}
 use Rattle.scan.specs.Scan.{scanSheet, coldScan}
-use Rattle.code.specs.declared.Record.{Record}
-use Rattle.code.specs.Worked.{bytes, code11}
-use Rattle.code.specs.Run.{runCode}
+use Rattle.machine.specs.declared.Record.{Record}
+use Rattle.words.specs.Worked.{bytes, code11}
+use Rattle.machine.specs.Run.{recordWith, runCode}
 use Rattle.translate.specs.Translation.{translate}
 use Rattle.translate.specs.Writing.{codeOf, translateInto, coldRun}
-use Rattle.promises.specs.Demand3.{Tick}
+use Rattle.same.specs.Histories.{Tick}
 
 -- "The two-contact sheet": its bytes
 unfoldable pub twoContact : List ℕ
@@ -118,7 +118,7 @@ abbrev pub state : ℕ → ℕ → ℕ → State
 state n outputs clock = record { state = n; outputs = outputs; clock = clock }
 
 abbrev pub flag : ℕ → ℕ → ℕ → Record
-flag word outputs clock = record { flags = word; outputs = outputs; clock = clock }
+flag word outputs clock = recordWith word outputs clock
 
 -- one scan gives this, accepted
 abbrev pub Gives : State → Record → Tick → State → Record → Type 0

@@ -11,12 +11,13 @@ use Rattle.bits.specs.Read.{ok}
 use Rattle.reader.specs.Sheet.{Sheet}
 use Rattle.reader.specs.Reading.{readSheet}
 use Rattle.sheet.specs.Judging.{checkSheet}
-use Rattle.code.specs.declared.Record.{Record}
-use Rattle.code.specs.Word.{END, toBytes}
-use Rattle.code.specs.Check.{checkCode}
-use Rattle.code.specs.Run.{runCode}
+use Rattle.machine.specs.declared.Record.{Record}
+use Rattle.words.specs.Word.{END, toBytes}
+use Rattle.faults.specs.Check.{checkCode}
+use Rattle.machine.specs.Run.{runCode}
 use Rattle.translate.specs.Writing.{codeOf, translateInto}
-use Rattle.promises.specs.Demand3.{Tick, Translator, Runner, runAfter, codeIn, Demand3}
+use Rattle.same.specs.Histories.{Tick, Runner, runAfter}
+use Rattle.promises.specs.Demand3.{Translator, codeIn, Demand3}
 use Rattle.promises.specs.Length.{LengthOf}
 
 -- the contracts of the two checkers and of the translator

@@ -5,15 +5,12 @@ use mathlib.Core.List.{List}
 use Rattle.answer.specs.declared.Checked.{Checked}
 use Rattle.answer.specs.Number.{numberOf, placeOf}
 use Rattle.scan.specs.declared.State.{State}
-use Rattle.code.specs.declared.Record.{Record}
+use Rattle.machine.specs.declared.Record.{Record}
 use Rattle.translate.specs.Writing.{Written}
 
--- the record behind the pointers, for the reference and for the runner
+-- the record behind the pointers, for the reference
 abbrev pub stateOf : ℕ → ℕ → ℕ → State
 stateOf state outputs clock = record { state = state; outputs = outputs; clock = clock }
-
-abbrev pub recordOf : ℕ → ℕ → ℕ → Record
-recordOf flags outputs clock = record { flags = flags; outputs = outputs; clock = clock }
 
 -- the paper's number and place, 0 and 0 where accepted
 pub record Told (verdict : Checked) (r place : ℕ) : Type 0 where

@@ -1,21 +1,33 @@
--- "Prove that the contract admits a single outcome", at the C boundary: what each contract says of number, place, record, length and buffer can be
--- met in one way only.
+-- "Prove that the contract admits a single outcome", at the C boundary: for each call, whatever it is given, there is one number, one place and one
+-- value behind each other pointer that its relation allows, and no other.
 use Prim.Native.Nat.{ℕ}
 use mathlib.Core.Path.{_≡_}
 use mathlib.Core.List.{List}
-use Rattle.answer.specs.declared.Checked.{Checked}
 use Rattle.scan.specs.declared.State.{State}
-use Rattle.code.specs.declared.Record.{Record}
-use Rattle.translate.specs.Writing.{Written}
-use Rattle.recorder.specs.Answer.{Told, CodeLeft, StateLeft, RecordLeft}
+use Rattle.machine.specs.declared.Record.{Record}
+use Rattle.recorder.specs.Calls.{ChzCheckSheet, ChzCheckCode, ChzTranslate, ChzColdScan, ChzColdRun, ChzScan, ChzRun}
+
+-- a number and a place
+abbrev pub OnePlace : (ℕ → ℕ → Type 0) → Type 0
+OnePlace call = (n p : ℕ) × call n p × ((m q : ℕ) → call m q → (m ≡ n) × (q ≡ p))
+
+-- and three parts of a record
+abbrev pub OneRecord : (ℕ → ℕ → ℕ → ℕ → ℕ → Type 0) → Type 0
+OneRecord call =
+    (n p s o c : ℕ) × call n p s o c
+    × ((n2 p2 s2 o2 c2 : ℕ) → call n2 p2 s2 o2 c2 → (n2 ≡ n) × (p2 ≡ p) × (s2 ≡ s) × (o2 ≡ o) × (c2 ≡ c))
+
+-- and a length with every byte of a buffer
+abbrev pub OneCode : (ℕ → ℕ → ℕ → List ℕ → Type 0) → Type 0
+OneCode call =
+    (n p l : ℕ) × (code : List ℕ) × call n p l code
+    × ((n2 p2 l2 : ℕ) (code2 : List ℕ) → call n2 p2 l2 code2 → (n2 ≡ n) × (p2 ≡ p) × (l2 ≡ l) × (code2 ≡ code))
 
 pub record SingleAtC : Type 0 where
-  -- the number and the place, of all seven calls
-  pub told : (v : Checked) (r p r2 p2 : ℕ) → Told v r p → Told v r2 p2 → (r ≡ r2) × (p ≡ p2)
-  -- the length and every byte of the buffer, of chz_translate
-  pub code : (w : Written) (length length2 : ℕ) (bytes bytes2 : List ℕ) → CodeLeft w length bytes → CodeLeft w length2 bytes2
-      → (length ≡ length2) × (bytes ≡ bytes2)
-  -- the reference's record, of chz_scan and chz_cold_scan
-  pub state : (q : State) (s o c s2 o2 c2 : ℕ) → StateLeft q s o c → StateLeft q s2 o2 c2 → (s ≡ s2) × (o ≡ o2) × (c ≡ c2)
-  -- the runner's record, of chz_run and chz_cold_run
-  pub left : (q : Record) (f o c f2 o2 c2 : ℕ) → RecordLeft q f o c → RecordLeft q f2 o2 c2 → (f ≡ f2) × (o ≡ o2) × (c ≡ c2)
+  pub check-sheet : (sheet : List ℕ) → OnePlace (ChzCheckSheet sheet)
+  pub check-code : (code : List ℕ) → OnePlace (ChzCheckCode code)
+  pub translate : (sheet buffer : List ℕ) → OneCode (ChzTranslate sheet buffer)
+  pub cold-scan : (sheet : List ℕ) → OneRecord (ChzColdScan sheet)
+  pub cold-run : (sheet : List ℕ) → OneRecord (ChzColdRun sheet)
+  pub scan : (sheet : List ℕ) (given : State) (inputs elapsed : ℕ) → OneRecord (ChzScan sheet given inputs elapsed)
+  pub run : (code : List ℕ) (given : Record) (inputs elapsed : ℕ) → OneRecord (ChzRun code given inputs elapsed)

@@ -1,15 +1,11 @@
 // The C boundary: each call answers with plain numbers, and settles what stands behind each pointer.
 use answer::Checked;
-use code::Record;
 use scan::State;
 ghost use Prim.Native.Nat.{_≤_};
 ghost use Rattle.answer.specs.Number.{placeOf, farthest};
-ghost use Rattle.sheet.specs.Judging.{checkSheet};
-ghost use Rattle.scan.specs.Scan.{scanSheet, coldScan};
-ghost use Rattle.code.specs.Check.{checkCode};
-ghost use Rattle.code.specs.Run.{runCode};
-ghost use Rattle.translate.specs.Writing.{translateInto, coldRun};
-ghost use Rattle.recorder.specs.Answer.{stateOf, recordOf, Told, CodeLeft, StateLeft, RecordLeft};
+ghost use Rattle.machine.specs.Run.{recordWith};
+ghost use Rattle.recorder.specs.Answer.{stateOf, Told};
+ghost use Rattle.recorder.specs.Calls.{ChzCheckSheet, ChzCheckCode, ChzTranslate, ChzColdScan, ChzColdRun, ChzScan, ChzRun};
 
 // The number, and the place behind its pointer: no place needs more than 32 bits.
 fn answered(verdict: Checked, place: &mut u32) -> u32
@@ -23,7 +19,7 @@ fn answered(verdict: Checked, place: &mut u32) -> u32
 // Judges a sheet.
 #[no_mangle]
 pub extern "C" fn chz_check_sheet(sheet: &[u8], place: &mut u32) -> u32
-    ensures { λ r. ⌜ Told (checkSheet (now (sheet .entry))) r (now (place .exit)) ⌝ }
+    ensures { λ r. ⌜ ChzCheckSheet (now (sheet .entry)) r (now (place .exit)) ⌝ }
 {
     answered(sheet::check_sheet(sheet), place)
 }
@@ -31,9 +27,9 @@ pub extern "C" fn chz_check_sheet(sheet: &[u8], place: &mut u32) -> u32
 // Judges code.
 #[no_mangle]
 pub extern "C" fn chz_check_code(code: &[u8], place: &mut u32) -> u32
-    ensures { λ r. ⌜ Told (checkCode (now (code .entry))) r (now (place .exit)) ⌝ }
+    ensures { λ r. ⌜ ChzCheckCode (now (code .entry)) r (now (place .exit)) ⌝ }
 {
-    answered(code::check_code(code), place)
+    answered(faults::check_code(code), place)
 }
 
 // Writes the code of a sheet.
@@ -44,8 +40,7 @@ pub extern "C" fn chz_translate(
     length: &mut u32,
     place: &mut u32,
 ) -> u32
-    ensures told { λ r. ⌜ Told (translateInto (now (sheet .entry)) (now (code .entry)) .answer .verdict) r (now (place .exit)) ⌝ }
-    ensures left { λ r. ⌜ CodeLeft (translateInto (now (sheet .entry)) (now (code .entry))) (now (length .exit)) (now (code .exit)) ⌝ }
+    ensures { λ r. ⌜ ChzTranslate (now (sheet .entry)) (now (code .entry)) r (now (place .exit)) (now (length .exit)) (now (code .exit)) ⌝ }
 {
     let translated = translate::translate(sheet, code);
     *length = translated.length as u32;
@@ -62,8 +57,7 @@ pub extern "C" fn chz_cold_scan(
     clock: &mut u32,
     place: &mut u32,
 ) -> u32
-    ensures told { λ r. ⌜ Told (coldScan (now (sheet .entry)) .verdict) r (now (place .exit)) ⌝ }
-    ensures left { λ r. ⌜ StateLeft (coldScan (now (sheet .entry)) .«record») (now (state .exit)) (now (outputs .exit)) (now (clock .exit)) ⌝ }
+    ensures { λ r. ⌜ ChzColdScan (now (sheet .entry)) r (now (place .exit)) (now (state .exit)) (now (outputs .exit)) (now (clock .exit)) ⌝ }
 {
     let cold = scan::cold_scan(sheet);
     let begun = cold.record;
@@ -83,8 +77,7 @@ pub extern "C" fn chz_cold_run(
     clock: &mut u32,
     place: &mut u32,
 ) -> u32
-    ensures told { λ r. ⌜ Told (coldRun (now (sheet .entry)) .verdict) r (now (place .exit)) ⌝ }
-    ensures left { λ r. ⌜ RecordLeft (coldRun (now (sheet .entry)) .«record») (now (flags .exit)) (now (outputs .exit)) (now (clock .exit)) ⌝ }
+    ensures { λ r. ⌜ ChzColdRun (now (sheet .entry)) r (now (place .exit)) (now (flags .exit)) (now (outputs .exit)) (now (clock .exit)) ⌝ }
 {
     let cold = translate::cold_run(sheet);
     let first = cold.record;
@@ -106,8 +99,7 @@ pub extern "C" fn chz_scan(
     elapsed: u32,
     place: &mut u32,
 ) -> u32
-    ensures told { λ r. ⌜ Told (scanSheet (now (sheet .entry)) (stateOf (now (state .entry)) (now (outputs .entry)) (now (clock .entry))) inputs elapsed .verdict) r (now (place .exit)) ⌝ }
-    ensures left { λ r. ⌜ StateLeft (scanSheet (now (sheet .entry)) (stateOf (now (state .entry)) (now (outputs .entry)) (now (clock .entry))) inputs elapsed .«record») (now (state .exit)) (now (outputs .exit)) (now (clock .exit)) ⌝ }
+    ensures { λ r. ⌜ ChzScan (now (sheet .entry)) (stateOf (now (state .entry)) (now (outputs .entry)) (now (clock .entry))) inputs elapsed r (now (place .exit)) (now (state .exit)) (now (outputs .exit)) (now (clock .exit)) ⌝ }
 {
     let given = State {
         state: *state,
@@ -134,15 +126,10 @@ pub extern "C" fn chz_run(
     elapsed: u32,
     place: &mut u32,
 ) -> u32
-    ensures told { λ r. ⌜ Told (runCode (now (code .entry)) (recordOf (now (flags .entry)) (now (outputs .entry)) (now (clock .entry))) inputs elapsed .verdict) r (now (place .exit)) ⌝ }
-    ensures left { λ r. ⌜ RecordLeft (runCode (now (code .entry)) (recordOf (now (flags .entry)) (now (outputs .entry)) (now (clock .entry))) inputs elapsed .«record») (now (flags .exit)) (now (outputs .exit)) (now (clock .exit)) ⌝ }
+    ensures { λ r. ⌜ ChzRun (now (code .entry)) (recordWith (now (flags .entry)) (now (outputs .entry)) (now (clock .entry))) inputs elapsed r (now (place .exit)) (now (flags .exit)) (now (outputs .exit)) (now (clock .exit)) ⌝ }
 {
-    let given = Record {
-        flags: *flags,
-        outputs: *outputs,
-        clock: *clock,
-    };
-    let ran = code::run(code, given, inputs, elapsed);
+    let given = machine::record_with(*flags, *outputs, *clock);
+    let ran = machine::run(code, given, inputs, elapsed);
     let after = ran.record;
     *flags = after.flags;
     *outputs = after.outputs;

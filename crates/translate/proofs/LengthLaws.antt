@@ -9,7 +9,7 @@ use lib.Dec.{leb}
 use lib.ListN.{length, length-append, getD}
 use Rattle.condition.specs.Cond.{Cond, inp, neg, conj, disj, wordCount}
 use Rattle.reader.specs.Sheet.{Transition, Sheet, rowOf}
-use Rattle.code.specs.Word.{TRES, JMP}
+use Rattle.words.specs.Word.{TRES, JMP}
 use Rattle.translate.specs.Translation.{
   condCode,
   waitCode,
@@ -28,7 +28,7 @@ use Rattle.translate.specs.Translation.{
   translate,
 }
 use Rattle.translate.specs.Writing.{codeOf}
-use Rattle.code.proofs.WordLaws.{bytes-length}
+use Rattle.words.proofs.WordLaws.{bytes-length}
 
 -- the words of a condition, of a wait and of a block
 pub cond-length : (c : Cond) → length (condCode c) ≡ wordCount c

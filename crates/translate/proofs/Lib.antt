@@ -2,7 +2,6 @@ pub mod LengthLaws
 pub mod SortLaws
 pub mod InsertLaws
 pub mod RoomLaws
-pub mod WroteLaws
 pub mod ConditionLaws
 pub mod BlockLaws
 pub mod RowLaws

@@ -1,3 +1,3 @@
 pub mod Translation
 pub mod Writing
-pub mod Emitting
+pub mod inside

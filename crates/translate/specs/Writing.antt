@@ -11,8 +11,9 @@ use Rattle.answer.specs.declared.Checked.the-variants.{Accepted, Refused}
 use Rattle.reader.specs.Sheet.{Sheet}
 use Rattle.sheet.specs.Judging.{withSheet}
 use Rattle.scan.specs.Scan.{outputsOf}
-use Rattle.code.specs.Word.{toBytes}
-use Rattle.code.specs.declared.Record.{Record}
+use Rattle.words.specs.Word.{toBytes}
+use Rattle.machine.specs.Run.{recordWith}
+use Rattle.machine.specs.declared.Record.{Record}
 use Rattle.translate.specs.Translation.{translate}
 use Rattle.translate.specs.declared.Translated.{Translated}
 use Rattle.translate.specs.declared.Cold.{Cold}
@@ -43,11 +44,11 @@ translateInto s buffer =
 
 -- "Cold start: state 0 active, its outputs, clock 0": flag 0 alone
 unfoldable pub coldRecord : Sheet → Record
-coldRecord a = record { flags = 1; outputs = outputsOf a 0; clock = 0 }
+coldRecord a = recordWith 1 (outputsOf a 0) 0
 
 -- "A cold start refused for its sheet returns a record of zeros."
 abbrev pub noRecord : Refusal → Cold
-noRecord why = record { verdict = Refused why; «record» = record { flags = 0; outputs = 0; clock = 0 } }
+noRecord why = record { verdict = Refused why; «record» = recordWith 0 0 0 }
 
 unfoldable pub coldRun : List ℕ → Cold
 coldRun s = withSheet s noRecord λ a. record { verdict = Accepted; «record» = coldRecord a }

@@ -6,7 +6,7 @@ use native.Mathlib.Omega.{arith}
 use borrow.Author.Needs.{needs}
 use Rattle.answer.specs.Number.{placeOf, farthest}
 use Rattle.answer.specs.declared.Checked.{Checked}
-use Rattle.code.proofs.PlaceLaws.{place-fits}
+use Rattle.faults.proofs.PlaceLaws.{place-fits}
 use Rattle.recorder.specs.Answer.{Told}
 use Rattle.recorder.proofs.chz_check_code.Statement.{statement}
 use Rattle.recorder.proofs.chz_check_code.Tie as tie
@@ -19,7 +19,10 @@ answered-requires c κs =
     subst (λ (v : Checked). placeOf v ≤ farthest) (sym (c .before .check-code .ensures)) (omega (arith, place-fits (now (c .before .before .before .args .code))))
 
 returns : tie.Need-returns
-returns c = subst (λ (v : Checked). Told v (c .answered .result) (c .answered .last .1 .0)) (c .before .before .check-code .ensures) (c .answered .ensures)
+returns c =
+    record {
+      told = subst (λ (v : Checked). Told v (c .answered .result) (c .answered .last .1 .0)) (c .before .before .check-code .ensures) (c .answered .ensures);
+    }
 
 pub chz-check-code-spec : {M : Type 1} → statement M
 chz-check-code-spec = tie.close (tie.spec check-code-requires answered-requires returns)

@@ -19,7 +19,10 @@ answered-requires c κs =
     subst (λ (v : Checked). placeOf v ≤ farthest) (sym (c .before .check-sheet .ensures)) (omega (arith, place-fits (now (c .before .before .before .args .sheet))))
 
 returns : tie.Need-returns
-returns c = subst (λ (v : Checked). Told v (c .answered .result) (c .answered .last .1 .0)) (c .before .before .check-sheet .ensures) (c .answered .ensures)
+returns c =
+    record {
+      told = subst (λ (v : Checked). Told v (c .answered .result) (c .answered .last .1 .0)) (c .before .before .check-sheet .ensures) (c .answered .ensures);
+    }
 
 pub chz-check-sheet-spec : {M : Type 1} → statement M
 chz-check-sheet-spec = tie.close (tie.spec check-sheet-requires answered-requires returns)

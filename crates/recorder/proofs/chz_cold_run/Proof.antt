@@ -19,14 +19,15 @@ answered-requires c κs =
 
 returns : tie.Need-returns
 returns c =
-    let e = c .before .before .before .cold-run .ensures in (
-      subst (λ (x : Cold). Told (x .verdict) (c .answered .result) (c .answered .last .1 .0)) e (c .answered .ensures),
-      record {
+    let e = c .before .before .before .cold-run .ensures in
+    record {
+      told = subst (λ (x : Cold). Told (x .verdict) (c .answered .result) (c .answered .last .1 .0)) e (c .answered .ensures);
+      left = record {
         flags-is = ap (λ (x : Cold). x .«record» .flags) e;
         outputs-is = ap (λ (x : Cold). x .«record» .outputs) e;
         clock-is = ap (λ (x : Cold). x .«record» .clock) e;
-      },
-    )
+      };
+    }
 
 pub chz-cold-run-spec : {M : Type 1} → statement M
 chz-cold-run-spec = tie.close (tie.spec cold-run-requires answered-requires returns)

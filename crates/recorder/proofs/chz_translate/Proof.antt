@@ -32,13 +32,14 @@ same-length c = search needs
 
 returns : tie.Need-returns
 returns c =
-    let e = c .before .before .before .before .before .translate .ensures in (
-      subst (λ (x : Translated). Told (x .verdict) (c .answered .result) (c .answered .last .1 .0)) (e .0) (c .answered .ensures),
-      record {
+    let e = c .before .before .before .before .before .translate .ensures in
+    record {
+      told = subst (λ (x : Translated). Told (x .verdict) (c .answered .result) (c .answered .last .1 .0)) (e .0) (c .answered .ensures);
+      left = record {
         length-is = ap (λ (x : Translated). x .length) (e .0);
         code-is = e .1;
-      },
-    )
+      };
+    }
 
 pub chz-translate-spec : {M : Type 1} → statement M
 chz-translate-spec = tie.close (tie.spec translate-requires cast-length answered-requires same-length returns)

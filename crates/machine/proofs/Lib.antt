@@ -1,0 +1,4 @@
+pub mod StepLaws
+pub mod RunLaws
+pub mod TextLaws
+pub mod PlaceLaws

@@ -1,0 +1,4 @@
+pub mod Machine
+pub mod Run
+pub mod Worked
+pub mod inside

@@ -1,0 +1,2 @@
+pub mod MovesProof
+pub mod HomeProof

@@ -1,0 +1,9 @@
+pub mod EachLaws
+pub mod RunLaws
+pub mod CheckLaws
+pub mod PiecesLaws
+pub mod RoomLaws
+pub mod SameProof
+pub mod CheckProof
+pub mod AcceptedLaws
+pub mod FollowsProof

@@ -1,0 +1,3 @@
+pub mod Word
+pub mod Worked
+pub mod inside
