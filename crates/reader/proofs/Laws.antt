@@ -5,7 +5,7 @@ use mathlib.Core.Bool.{Bool, true, false, not}
 use Prim.Native.Nat.{ℕ, zero, suc, _+_, _*_, _-_, _/_, _%_, _^_, _≤_, _<_}
 use native.Mathlib.Numerals.{add-one}
 use native.Mathlib.Omega.{arith}
-use lib.ListN.{length, getD}
+use lib.ListN.{length, getD, set}
 use lib.Dec.{ltb, eqb}
 use borrow.Author.Tests.{eq-eqb, ne-eqb}
 use Rattle.answer.specs.declared.Refusal.{Refusal}
@@ -19,20 +19,21 @@ use Rattle.bits.proofs.FieldLaws.{field-here}
 use Rattle.bits.proofs.WordLaws.{bit-no}
 use Rattle.bits.proofs.ReadLaws.{bind-both, ok-next, ok-is, bind-ok, guard-ok, field-read, upto-next, upto-length}
 use Rattle.condition.specs.Reading.{conditionAt}
+use Rattle.condition.specs.declared.Facts.{Facts}
+use Rattle.condition.specs.declared.CondRead.{CondRead}
+use Rattle.condition.specs.declared.CondRead.the-variants as condread
 use Rattle.condition.proofs.Laws.{cond-went}
 use Rattle.reader.specs.Sheet.{Transition, Sheet, count, noTransition}
 use Rattle.reader.specs.Reading.{readHeader, rowAt, transitionAt, endsAt, readSheet}
 use Rattle.reader.specs.Packing.{unpack, lineAt}
-use Rattle.reader.specs.Decoding.{Names, namesAt, restAt, forgetHeader, forgetRow, forgetNames, LineIs, Holds, HoldsRows, HoldsLines, Copy, Answers}
+use Rattle.reader.specs.Decoding.{Names, namesAt, restAt, HeadIs, forgetRow, forgetNames, LineIs, Holds, HoldsRows, HoldsLines, Copy, Answers}
 use Rattle.reader.specs.declared.Header.{Header}
 use Rattle.reader.specs.declared.Decoded.{Decoded}
 use Rattle.reader.specs.declared.How.{How}
 use Rattle.reader.specs.declared.How.the-variants as how
-use Rattle.reader.specs.declared.HeadRead.the-variants as headread
+use Rattle.reader.specs.declared.HeadRead.{HeadRead}
 use Rattle.reader.specs.declared.RowRead.the-variants as rowread
 use Rattle.reader.specs.declared.NamesRead.the-variants as namesread
-use Rattle.reader.specs.declared.LineRead.{LineRead}
-use Rattle.reader.specs.declared.LineRead.the-variants as lineread
 
 -- a test and what follows it may be taken apart
 bind-guard : {A B : Type 0} (t : Bool) (r : Refusal) (x : Ans A) (f : A → ℕ → Ans B) → bind (guard t r x) f ≡ guard t r (bind x f)
@@ -103,16 +104,25 @@ row-next s l at {row} {next} h =
 cursor-is : {a : ℕ} {c : Cursor} → record { at = a } ≡ c → a ≡ c .at
 cursor-is h = ap (λ (x : Cursor). x .at) h
 
-pub header-got : (x : Ans Header) (h : Header) (c : Cursor) → forgetHeader x ≡ headread.Head h c → x ≡ ok h (c .at)
-header-got (ok g next) h c e =
-    let p : g ≡ h = cc in
-    let q : record { at = next } ≡ c = cc in
-    ap (λ (k : Header). ok k next) p ∙ ap (λ (m : ℕ). ok h m) (cursor-is q)
-header-got (no why) h c e = let z : _≡_ {A = ℕ} 0 1 = cc in absurd (omega arith)
+done-is : {a b : Cursor} → how.Done a ≡ how.Done b → a ≡ b
+done-is h = cc
 
-pub header-bad : (x : Ans Header) (q : Refusal) → forgetHeader x ≡ headread.Bad q → x ≡ no q
-header-bad (ok g next) q e = let z : _≡_ {A = ℕ} 0 1 = cc in absurd (omega arith)
-header-bad (no p) q e = let r : p ≡ q = cc in ap no r
+bad-is : {a b : Refusal} → how.Bad a ≡ how.Bad b → a ≡ b
+bad-is h = cc
+
+done-bad : {A : Type 0} {a : Cursor} {b : Refusal} → how.Done a ≡ how.Bad b → A
+done-bad h = let z : _≡_ {A = ℕ} 0 1 = cc in absurd (omega arith)
+
+pub header-done : (x : Ans Header) (r : HeadRead) (c : Cursor) → HeadIs x r → r .how ≡ how.Done c → x ≡ ok (r .header) (c .at)
+header-done (ok h next) r c e d =
+    let same : h ≡ r .header = sym (ap (λ (y : HeadRead). y .header) e) in
+    let here : how.Done (record { at = next }) ≡ how.Done c = sym (ap (λ (y : HeadRead). y .how) e) ∙ d in
+    ap (λ (y : Header). ok y next) same ∙ ap (λ (m : ℕ). ok (r .header) m) (cursor-is (done-is here))
+header-done (no why) r c e d = done-bad (sym d ∙ e)
+
+pub header-bad : (x : Ans Header) (r : HeadRead) (q : Refusal) → HeadIs x r → r .how ≡ how.Bad q → x ≡ no q
+header-bad (ok h next) r q e d = done-bad (sym (ap (λ (y : HeadRead). y .how) e) ∙ d)
+header-bad (no why) r q e d = ap no (bad-is (sym e ∙ d))
 
 pub row-got : (x : Ans (List Bool)) (w : ℕ) (c : Cursor) → forgetRow x ≡ rowread.Row w c → (row : List Bool) × (x ≡ ok row (c .at)) × (w ≡ wordOf row)
 row-got (ok row next) w c e =
@@ -139,34 +149,31 @@ pub names-bad : (x : Ans Names) (q : Refusal) → forgetNames x ≡ namesread.Ba
 names-bad (ok g next) q e = let z : _≡_ {A = ℕ} 0 1 = cc in absurd (omega arith)
 names-bad (no p) q e = let r : p ≡ q = cc in ap no r
 
-next-line : {l m : ℕ} {c d : Cursor} → lineread.Next l c ≡ lineread.Next m d → l ≡ m
-next-line h = cc
-
-next-cursor : {l m : ℕ} {c d : Cursor} → lineread.Next l c ≡ lineread.Next m d → c ≡ d
+next-cursor : {c d : Cursor} {f g : Facts} → condread.Next c f ≡ condread.Next d g → c ≡ d
 next-cursor h = cc
 
-pub line-got : (s : List ℕ) (k : ℕ) (x : Ans Transition) (r : LineRead) (l : ℕ) (c : Cursor) → LineIs s k x r → r ≡ lineread.Next l c
-    → (t : Transition) × (x ≡ ok t (c .at)) × Holds s k (unpack l) t
-line-got s k (ok t next) r l c h e =
-    let f : lineread.Next (h .0) (record { at = next }) ≡ lineread.Next l c = sym (h .1) ∙ e in
-    (t, ap (λ (m : ℕ). ok t m) (cursor-is (next-cursor f)), rw (next-line f) at (h .2))
-line-got s k (no why) r l c h e = let f : lineread.Bad why ≡ lineread.Next l c = sym h ∙ e in let z : _≡_ {A = ℕ} 0 1 = cc in absurd (omega arith)
+next-bad : {A : Type 0} {c : Cursor} {f : Facts} {q : Refusal} → condread.Next c f ≡ condread.Bad q → A
+next-bad h = let z : _≡_ {A = ℕ} 0 1 = cc in absurd (omega arith)
 
-pub line-bad : (s : List ℕ) (k : ℕ) (x : Ans Transition) (r : LineRead) (q : Refusal) → LineIs s k x r → r ≡ lineread.Bad q → x ≡ no q
-line-bad s k (ok t next) r q h e =
-    let f : lineread.Next (h .0) (record { at = next }) ≡ lineread.Bad q = sym (h .1) ∙ e in
-    let z : _≡_ {A = ℕ} 0 1 = cc in
-    absurd (omega arith)
-line-bad s k (no p) r q h e = let f : lineread.Bad p ≡ lineread.Bad q = sym h ∙ e in let g : p ≡ q = cc in ap no g
+bad-line : {p q : Refusal} → condread.Bad p ≡ condread.Bad q → p ≡ q
+bad-line h = cc
 
-done-is : {a b : Cursor} → how.Done a ≡ how.Done b → a ≡ b
-done-is h = cc
+module _ (s : List ℕ) (k : ℕ) (x : Ans Transition) (i : ℕ) (before : List ℕ) (r : CondRead) (after : List ℕ) where
+  pub line-got : (c : Cursor) (f : Facts) → LineIs s k x i before r after → r ≡ condread.Next c f
+      → (t : Transition) × (word : ℕ) × (x ≡ ok t (c .at)) × (after ≡ set before i word) × Holds s k (unpack word) t
+  line-got c f h e = go x h
+    where
+      go : (x : Ans Transition) → LineIs s k x i before r after
+          → (t : Transition) × (word : ℕ) × (x ≡ ok t (c .at)) × (after ≡ set before i word) × Holds s k (unpack word) t
+      go (ok t next) h = (t, h .0, ap (λ (m : ℕ). ok t m) (cursor-is (next-cursor (sym (h .2) ∙ e))), h .3, h .4)
+      go (no why) h = next-bad (sym e ∙ h)
 
-bad-is : {a b : Refusal} → how.Bad a ≡ how.Bad b → a ≡ b
-bad-is h = cc
-
-done-bad : {A : Type 0} {a : Cursor} {b : Refusal} → how.Done a ≡ how.Bad b → A
-done-bad h = let z : _≡_ {A = ℕ} 0 1 = cc in absurd (omega arith)
+  pub line-bad : (q : Refusal) → LineIs s k x i before r after → r ≡ condread.Bad q → x ≡ no q
+  line-bad q h e = go x h
+    where
+      go : (x : Ans Transition) → LineIs s k x i before r after → x ≡ no q
+      go (ok t next) h = next-bad (sym (h .2) ∙ e)
+      go (no p) h = ap no (bad-line (sym h ∙ e))
 
 -- rows and transitions that were read, or refused
 pub rows-done : (x : Ans (List (List Bool))) (n : ℕ) (r : How) (rows : List ℕ) (c : Cursor) → HoldsRows x n r rows → r ≡ how.Done c

@@ -1,4 +1,5 @@
 pub mod FillLaws
 pub mod PackLaws
 pub mod Laws
+pub mod RestLaws
 pub mod PlaceLaws

@@ -3,14 +3,14 @@ use Prim.Native.Nat.{ℕ, _<_}
 use mathlib.Core.Path.{_≡_}
 use mathlib.Core.List.{List, []}
 use mathlib.Core.Bool.{Bool}
-use lib.ListN.{length, getD}
+use lib.ListN.{length, getD, set}
 use lib.Dec.{ltb}
-use Rattle.answer.specs.declared.Refusal.{Refusal}
 use Rattle.answer.specs.declared.Refusal.the-variants as refuse
 use Rattle.bits.specs.Word.{wordOf}
 use Rattle.bits.specs.Read.{Ans, ok, no, bind, guard, readField}
 use Rattle.condition.specs.Cond.{wordCount}
 use Rattle.condition.specs.Reading.{counted, conditionAt, formOf}
+use Rattle.condition.specs.declared.Facts.{Facts}
 use Rattle.condition.specs.declared.CondRead.{CondRead}
 use Rattle.condition.specs.declared.CondRead.the-variants as condread
 use Rattle.reader.specs.Sheet.{Transition, Sheet, count, transitionOf, rowOf, noTransition}
@@ -21,35 +21,19 @@ use Rattle.reader.specs.declared.Decoded.{Decoded}
 use Rattle.reader.specs.declared.How.{How}
 use Rattle.reader.specs.declared.How.the-variants as how
 use Rattle.reader.specs.declared.HeadRead.{HeadRead}
-use Rattle.reader.specs.declared.HeadRead.the-variants as headread
 use Rattle.reader.specs.declared.RowRead.{RowRead}
 use Rattle.reader.specs.declared.RowRead.the-variants as rowread
 use Rattle.reader.specs.declared.NamesRead.{NamesRead}
 use Rattle.reader.specs.declared.NamesRead.the-variants as namesread
-use Rattle.reader.specs.declared.LineRead.{LineRead}
-use Rattle.reader.specs.declared.LineRead.the-variants as lineread
 
 -- what the code answers of what is read
-abbrev pub forgetHeader : Ans Header → HeadRead
-forgetHeader (ok h next) = headread.Head h (record { at = next })
-forgetHeader (no why) = headread.Bad why
+abbrev pub HeadIs : Ans Header → HeadRead → Type 0
+HeadIs (ok h next) r = r ≡ record { how = how.Done (record { at = next }); header = h }
+HeadIs (no why) r = r .how ≡ how.Bad why
 
 abbrev pub forgetRow : Ans (List Bool) → RowRead
 forgetRow (ok row next) = rowread.Row (wordOf row) (record { at = next })
 forgetRow (no why) = rowread.Bad why
-
--- the refusal in an answer that is one
-abbrev pub condFault : CondRead → Refusal
-condFault (condread.Bad why) = why
-condFault (condread.Next c f) = refuse.OneState
-
-abbrev pub headFault : HeadRead → Refusal
-headFault (headread.Bad why) = why
-headFault (headread.Head h c) = refuse.OneState
-
-abbrev pub howFault : How → Refusal
-howFault (how.Bad why) = why
-howFault (how.Done c) = refuse.OneState
 
 -- a transition in two steps: the states that it names, and the rest
 pub record Names : Type 0 where
@@ -87,10 +71,11 @@ pub record Holds (s : List ℕ) (k : ℕ) (line : Line) (t : Transition) : Type 
   pub next : ℕ
   pub there : conditionAt s k (line .cond) ≡ ok (counted (t .condition) nodes) next
 
--- the code's answer is that transition, or the refusal
-abbrev pub LineIs : List ℕ → ℕ → Ans Transition → LineRead → Type 0
-LineIs s k (ok t next) r = (word : ℕ) × (r ≡ lineread.Next word (record { at = next })) × Holds s k (unpack word) t
-LineIs s k (no why) r = r ≡ lineread.Bad why
+-- the code's answer: the cursor after the transition, which entry i of the array keeps; or the refusal
+abbrev pub LineIs : List ℕ → ℕ → Ans Transition → ℕ → List ℕ → CondRead → List ℕ → Type 0
+LineIs s k (ok t next) i before r after =
+    (word : ℕ) × (f : Facts) × (r ≡ condread.Next (record { at = next }) f) × (after ≡ set before i word) × Holds s k (unpack word) t
+LineIs s k (no why) i before r after = r ≡ condread.Bad why
 
 -- the code's rows and lines are those of the lists
 abbrev pub HoldsRows : Ans (List (List Bool)) → ℕ → How → List ℕ → Type 0

@@ -10,7 +10,7 @@ ghost use Rattle.bits.specs.Word.{bitsOf, wordOf};
 ghost use Rattle.bits.specs.Read.{upto};
 ghost use Rattle.reader.specs.Reading.{readHeader, rowAt, transitionAt, endsAt, readSheet};
 ghost use Rattle.reader.specs.Packing.{pack, unpack, Fits};
-ghost use Rattle.reader.specs.Decoding.{forgetHeader, forgetRow, HoldsRows, forgetNames, namesAt, LineIs, restAt, HoldsLines, Answers, condFault, headFault, howFault};
+ghost use Rattle.reader.specs.Decoding.{HeadIs, forgetRow, HoldsRows, forgetNames, namesAt, LineIs, restAt, HoldsLines, Answers};
 
 // The header's four numbers.
 pub struct Header {
@@ -46,12 +46,13 @@ pub struct Decoded {
     pub transitions: usize,
 }
 
-// The answers of the steps below: what was read with the cursor after it, or the refusal.
-pub enum HeadRead {
-    Head(Header, Cursor),
-    Bad(Refusal),
+// How the header was read, and where it was, its numbers.
+pub struct HeadRead {
+    pub how: How,
+    pub header: Header,
 }
 
+// The answers of the steps below: what was read with the cursor after it, or the refusal.
 pub enum RowRead {
     Row(u16, Cursor),
     Bad(Refusal),
@@ -62,46 +63,56 @@ pub enum NamesRead {
     Bad(Refusal),
 }
 
-pub enum LineRead {
-    Next(u64, Cursor),
-    Bad(Refusal),
+// A header that was refused.
+fn no_header(why: Refusal) -> HeadRead
+    ensures { λ r. ⌜ r .how ≡ How.Bad why ⌝ }
+{
+    HeadRead {
+        how: How::Bad(why),
+        header: Header {
+            states: 0,
+            inputs: 0,
+            outputs: 0,
+            transitions: 0,
+        },
+    }
 }
 
 fn read_header(s: &[u8]) -> HeadRead
-    ensures { λ r. ⌜ r ≡ forgetHeader (readHeader (now (s .entry))) ⌝ }
+    ensures { λ r. ⌜ HeadIs (readHeader (now (s .entry))) r ⌝ }
 {
     let c = Cursor { at: 0 };
     let g1 = bits::field(s, c, 5);
     let Got::Field(n, c1) = g1 else {
-        return HeadRead::Bad(Refusal::Short(0));
+        return no_header(Refusal::Short(0));
     };
     if n == 0 {
-        return HeadRead::Bad(Refusal::OneState);
+        return no_header(Refusal::OneState);
     }
     let at1 = c1.at;
     let g2 = bits::field(s, c1, 4);
     let Got::Field(k, c2) = g2 else {
-        return HeadRead::Bad(Refusal::Short(at1));
+        return no_header(Refusal::Short(at1));
     };
     let at2 = c2.at;
     let g3 = bits::field(s, c2, 4);
     let Got::Field(l, c3) = g3 else {
-        return HeadRead::Bad(Refusal::Short(at2));
+        return no_header(Refusal::Short(at2));
     };
     let at3 = c3.at;
     let g4 = bits::field(s, c3, 7);
     let Got::Field(m, c4) = g4 else {
-        return HeadRead::Bad(Refusal::Short(at3));
+        return no_header(Refusal::Short(at3));
     };
-    HeadRead::Head(
-        Header {
+    HeadRead {
+        how: How::Done(c4),
+        header: Header {
             states: n + 1,
             inputs: k + 1,
             outputs: l + 1,
             transitions: m + 1,
         },
-        c4,
-    )
+    }
 }
 
 // A row's field as an output word: the field has output 0 first, the word gives it weight 1.
@@ -177,16 +188,6 @@ fn read_names(s: &[u8], c: Cursor, n: u32) -> NamesRead
     NamesRead::Names(source as u8, destination as u8, c2)
 }
 
-// The refusal of a condition that was refused.
-fn cond_fault(a: CondRead) -> Refusal
-    ensures { λ r. ⌜ r ≡ condFault a ⌝ }
-{
-    match a {
-        CondRead::Bad(why) => why,
-        CondRead::Next(_, _) => Refusal::OneState,
-    }
-}
-
 // A line in one number: source and priority are its highest digits, so that they order it.
 fn packed(t: Line) -> u64
     requires { ⌜ Fits t ⌝ }
@@ -216,25 +217,33 @@ pub fn unpacked(w: u64) -> Line
     }
 }
 
-// The rest of a transition behind its two states: priority, wait and condition.
-fn read_rest(s: &[u8], c: Cursor, k: u32, source: u8, destination: u8) -> LineRead
-    requires { ⌜ (c .at < 32000) × (source < 32) × (destination < 32) ⌝ }
-    ensures { λ r. ⌜ LineIs (now (s .entry)) k (restAt (now (s .entry)) k source destination (c .at)) r ⌝ }
+// The rest of a transition behind its two states: priority, wait and condition. The answer is the condition's; line i keeps the whole.
+fn read_rest(
+    s: &[u8],
+    c: Cursor,
+    k: u32,
+    source: u8,
+    destination: u8,
+    lines: &mut [u64; 128],
+    i: usize,
+) -> CondRead
+    requires { ⌜ (c .at < 32000) × (source < 32) × (destination < 32) × (i < 128) × (length (now lines) ≡ 128) ⌝ }
+    ensures { λ r. ⌜ LineIs (now (s .entry)) k (restAt (now (s .entry)) k source destination (c .at)) i (now (lines .entry)) r (now (lines .exit)) ⌝ }
 {
     let at = c.at;
     let g1 = bits::field(s, c, 7);
     let Got::Field(priority, c1) = g1 else {
-        return LineRead::Bad(Refusal::Short(at));
+        return CondRead::Bad(Refusal::Short(at));
     };
     let at1 = c1.at;
     let g2 = bits::field(s, c1, 24);
     let Got::Field(wait, c2) = g2 else {
-        return LineRead::Bad(Refusal::Short(at1));
+        return CondRead::Bad(Refusal::Short(at1));
     };
     let at2 = c2.at;
     let a = condition::read_condition(s, c2, k, 8, 0, 0);
-    let CondRead::Next(next, f) = a else {
-        return LineRead::Bad(cond_fault(a));
+    let CondRead::Next(_, f) = a else {
+        return a;
     };
     let line = Line {
         source: source,
@@ -245,17 +254,28 @@ fn read_rest(s: &[u8], c: Cursor, k: u32, source: u8, destination: u8) -> LineRe
         wait: wait,
         cond: at2,
     };
-    LineRead::Next(packed(line), next)
+    lines[i] = packed(line);
+    a
 }
 
-fn read_transition(s: &[u8], c: Cursor, n: u32, k: u32) -> LineRead
-    requires { ⌜ c .at < 31000 ⌝ }
-    ensures { λ r. ⌜ LineIs (now (s .entry)) k (transitionAt (now (s .entry)) n k (c .at)) r ⌝ }
+// Transition i, which line i keeps.
+fn read_transition(
+    s: &[u8],
+    c: Cursor,
+    n: u32,
+    k: u32,
+    lines: &mut [u64; 128],
+    i: usize,
+) -> CondRead
+    requires { ⌜ (c .at < 31000) × (i < 128) × (length (now lines) ≡ 128) ⌝ }
+    ensures { λ r. ⌜ LineIs (now (s .entry)) k (transitionAt (now (s .entry)) n k (c .at)) i (now (lines .entry)) r (now (lines .exit)) ⌝ }
 {
     let g = read_names(s, c, n);
     match g {
-        NamesRead::Names(source, destination, next) => read_rest(s, next, k, source, destination),
-        NamesRead::Bad(why) => LineRead::Bad(why),
+        NamesRead::Names(source, destination, next) => {
+            read_rest(s, next, k, source, destination, lines, i)
+        }
+        NamesRead::Bad(why) => CondRead::Bad(why),
     }
 }
 
@@ -267,14 +287,13 @@ fn read_transitions(s: &[u8], c: Cursor, n: u32, k: u32, m: usize, lines: &mut [
     let mut here = c;
     let mut i: usize = 0;
     while i < m {
-        let g = read_transition(s, here, n, k);
+        let g = read_transition(s, here, n, k, lines, i);
         match g {
-            LineRead::Next(line, next) => {
-                lines[i] = line;
+            CondRead::Next(next, _) => {
                 here = next;
                 i += 1;
             }
-            LineRead::Bad(why) => {
+            CondRead::Bad(why) => {
                 return How::Bad(why);
             }
         }
@@ -303,30 +322,12 @@ fn ends_here(s: &[u8], c: Cursor) -> bool
     v == 0
 }
 
-// The refusal of a header, or of rows or transitions, that were refused.
-fn head_fault(h: HeadRead) -> Refusal
-    ensures { λ r. ⌜ r ≡ headFault h ⌝ }
-{
-    match h {
-        HeadRead::Bad(why) => why,
-        HeadRead::Head(_, _) => Refusal::OneState,
-    }
-}
-
-fn how_fault(h: How) -> Refusal
-    ensures { λ r. ⌜ r ≡ howFault h ⌝ }
-{
-    match h {
-        How::Bad(why) => why,
-        How::Done(_) => Refusal::OneState,
-    }
-}
-
-fn unread(why: Refusal) -> Decoded
-    ensures { λ r. ⌜ r .how ≡ How.Bad why ⌝ }
+// A sheet that was not read to its end.
+fn unread(how: How) -> Decoded
+    ensures { λ r. ⌜ r .how ≡ how ⌝ }
 {
     Decoded {
-        how: How::Bad(why),
+        how: how,
         states: 0,
         inputs: 0,
         outputs: 0,
@@ -340,20 +341,22 @@ pub fn read_sheet(s: &[u8], rows: &mut [u16; 32], lines: &mut [u64; 128]) -> Dec
     ensures { λ r. ⌜ Answers (now (s .entry)) (readSheet (now (s .entry))) r (now (rows .exit)) (now (lines .exit)) ⌝ }
 {
     let h = read_header(s);
-    let HeadRead::Head(head, c1) = h else {
-        return unread(head_fault(h));
+    let how0 = h.how;
+    let How::Done(c1) = how0 else {
+        return unread(how0);
     };
+    let head = h.header;
     let n = head.states;
     let k = head.inputs;
     let l = head.outputs;
     let m = head.transitions;
     let how1 = read_rows(s, c1, n as usize, l as usize, rows);
     let How::Done(c2) = how1 else {
-        return unread(how_fault(how1));
+        return unread(how1);
     };
     let how2 = read_transitions(s, c2, n, k, m as usize, lines);
     let How::Done(c3) = how2 else {
-        return unread(how_fault(how2));
+        return unread(how2);
     };
     if ends_here(s, c3) {
         return Decoded {
@@ -365,5 +368,5 @@ pub fn read_sheet(s: &[u8], rows: &mut [u16; 32], lines: &mut [u64; 128]) -> Dec
         };
     }
     let end = c3.at;
-    unread(Refusal::Tail(end))
+    unread(How::Bad(Refusal::Tail(end)))
 }

@@ -8,12 +8,6 @@ use Rattle.reader.proofs.Laws.{transition-is, names-got, names-bad, nam
 use Rattle.reader.proofs.read_transition.Statement.{statement}
 use Rattle.reader.proofs.read_transition.Tie as tie
 
-read-names-requires : tie.Need-read-names-requires
-read-names-requires c κs = search needs
-
-enum-known-g : tie.Need-enum-known-g
-enum-known-g c = search needs
-
 -- the states that it names
 named : (c : tie.After-known-told)
     → namesAt (c .before .before .before .before .before .args .s .now) (c .before .before .before .before .before .args .n) (c .before .before .before .before .before .args .c .at)
@@ -21,21 +15,24 @@ named : (c : tie.After-known-told)
 named c = names-got _ _ _ _ (sym (c .before .before .before .read-names .ensures) ∙ c .before .g .given .1)
 
 read-rest-requires : tie.Need-read-rest-requires
-read-rest-requires c κs = let few = names-few (c .before .before .before .before .before .args .s .now) (c .before .before .before .before .before .args .n) (c .before .before .before .before .before .args .c .at) (named c) in
-    omega (arith, few .0, few .1, names-next (c .before .before .before .before .before .args .s .now) (c .before .before .before .before .before .args .n) (c .before .before .before .before .before .args .c .at) (named c))
-
-enum-known-g-2 : tie.Need-enum-known-g-2
-enum-known-g-2 c = search needs
+read-rest-requires c κs =
+    let a = c .before .before .before .before .before .before .args in
+    let few = names-few (a .s .now) (a .n) (a .c .at) (named (c .before)) in
+    omega (arith, few .0, few .1, names-next (a .s .now) (a .n) (a .c .at) (named (c .before)))
 
 returns : tie.Need-returns
 returns c =
-    rw (transition-is (c .before .before .before .before .before .before .args .s .now) (c .before .before .before .before .before .before .args .n) (c .before .before .before .before .before .before .args .k) (c .before .before .before .before .before .before .args .c .at), named (c .before)) (c .read-rest .ensures)
+    let a = c .before .before .before .before .before .before .before .args in
+    rw (transition-is (a .s .now) (a .n) (a .k) (a .c .at), named (c .before .before)) (c .read-rest .ensures)
 
 returns-2 : tie.Need-returns-2
 returns-2 c =
-    let e = names-bad (namesAt (c .before .before .before .before .before .args .s .now) (c .before .before .before .before .before .args .n) (c .before .before .before .before .before .args .c .at)) (c .before .g2 .given .0 .0) (sym (c .before .before .before .read-names .ensures) ∙ c .before .g2 .given .1) in
-    rw (transition-is (c .before .before .before .before .before .args .s .now) (c .before .before .before .before .before .args .n) (c .before .before .before .before .before .args .k) (c .before .before .before .before .before .args .c .at), e) refl
+    let a = c .before .before .before .before .before .args in
+    let bad = c .before .g2 .given in
+    let e = names-bad (namesAt (a .s .now) (a .n) (a .c .at)) (bad .0 .0) (sym (c .before .before .before .read-names .ensures) ∙ bad .1) in
+    rw (transition-is (a .s .now) (a .n) (a .k) (a .c .at), e) refl
 
 pub read-transition-spec : {M : Type 1} → statement M
 read-transition-spec =
-    tie.close (tie.spec read-names-requires enum-known-g read-rest-requires enum-known-g-2 returns returns-2)
+    tie.close
+    (tie.spec (λ c κs. search needs) (λ c. search needs) read-rest-requires (λ c. search needs) returns returns-2)

@@ -1,8 +1,8 @@
 -- `reader::read_transitions` meets its contract. The invariant: the transitions passed are read, and the array holds them. Assumes nothing.
 use borrow.Author.Needs.{needs}
-use mathlib.Core.Path.{_≡_, refl, _∙_}
+use mathlib.Core.Path.{_≡_, refl, sym, ap, _∙_, subst}
 use mathlib.Core.List.{List, [], _∷_, _++_}
-use Prim.Native.Nat.{_+_, _*_, _-_, _≤_}
+use Prim.Native.Nat.{ℕ, _+_, _*_, _-_, _≤_}
 use native.Mathlib.Omega.{arith}
 use lib.ListN.{length, length-set}
 use Rattle.bits.specs.Read.{ok, upto}
@@ -28,51 +28,35 @@ loop-holds : tie.Need-loop-holds Inv-loop μ-loop
 unfolding upto
 loop-holds c = (omega arith, omega arith, omega arith, [], refl, λ j h. absurd (omega arith))
 
-read-transition-requires : tie.Need-read-transition-requires Inv-loop μ-loop
-read-transition-requires c κs = omega arith
-
-enum-known-g : tie.Need-enum-known-g Inv-loop μ-loop
-enum-known-g c = search needs
-
-mul-lines : tie.Need-mul-lines Inv-loop μ-loop
-mul-lines c = omega arith
-
-element-write-lines : tie.Need-element-write-lines Inv-loop μ-loop
-element-write-lines c = omega arith
-
-add-i : tie.Need-add-i Inv-loop μ-loop
-add-i c = omega arith
-
-loop-less : tie.Need-loop-less Inv-loop μ-loop
-loop-less c = omega arith
-
 loop-again : tie.Need-loop-again Inv-loop μ-loop
 loop-again c =
-    let a = c .before .before .before .before .before .before .before .args in
-    let l = c .before .before .before .before .before .loop in
+    let a = c .before .before .before .before .before .before .before .before .args in
+    let l = c .before .before .before .before .before .before .loop in
     let g = c .before .g .given in
-    let x = line-got (a .s .now) (a .k) (transitionAt (a .s .now) (a .n) (a .k) (l .here .at)) (c .before .before .before .read-transition .result) (g .0 .0) (g .0 .1 .0) (c .before .before .before .read-transition .ensures) (g .1) in (
-      length-set (l .lines) (l .i) (g .0 .0) ∙ l .inv .0,
+    let went = c .before .before .before .read-transition in
+    let read = transitionAt (a .s .now) (a .n) (a .k) in
+    let now = went .last .1 .1 .1 .1 .0 in
+    let x = line-got (a .s .now) (a .k) (read (l .here .at)) (l .i) (l .lines) (went .result) now (g .0 .0) (g .0 .1 .0) (went .ensures) (g .1) in
+    let many = upto-length read (a .c .at) (l .i) (l .inv .4) in
+    let more = filled-more (λ w t. Holds (a .s .now) (a .k) (unpack w) t) 0 noTransition (l .lines) (l .inv .3) (l .i) (x .1) (x .0)
+    (omega arith) many (l .inv .5) (x .4) in (
+      ap length (x .3) ∙ length-set (l .lines) (l .i) (x .1) ∙ l .inv .0,
       omega arith,
-      omega (arith, transition-next (a .s .now) (a .n) (a .k) (l .here .at) (x .1)),
+      omega (arith, transition-next (a .s .now) (a .n) (a .k) (l .here .at) (x .2)),
       l .inv .3 ++ x .0 ∷ [],
-      upto-more (transitionAt (a .s .now) (a .n) (a .k)) (a .c .at) (l .i) (l .inv .4) (x .1),
-      filled-more (λ w t. Holds (a .s .now) (a .k) (unpack w) t) 0 noTransition (l .lines) (l .inv .3) (l .i) (g .0 .0) (x .0) (omega arith)
-          (upto-length (transitionAt (a .s .now) (a .n) (a .k)) (a .c .at) (l .i) (l .inv .4))
-          (l .inv .5)
-          (x .2),
+      upto-more read (a .c .at) (l .i) (l .inv .4) (x .2),
+      subst (λ (ls : List ℕ). Filled (λ w t. Holds (a .s .now) (a .k) (unpack w) t) 0 noTransition ls (l .inv .3 ++ x .0 ∷ []) (l .i + 1)) (sym (x .3)) more,
     )
-
-enum-known-g-2 : tie.Need-enum-known-g-2 Inv-loop μ-loop
-enum-known-g-2 c = search needs
 
 returns : tie.Need-returns Inv-loop μ-loop
 returns c =
-    let a = c .before .before .before .before .before .before .before .args in
-    let l = c .before .before .before .before .before .loop in
+    let a = c .before .before .before .before .before .before .before .before .args in
+    let l = c .before .before .before .before .before .before .loop in
     let g = c .before .g2 .given in
-    let x = line-bad (a .s .now) (a .k) (transitionAt (a .s .now) (a .n) (a .k) (l .here .at)) (c .before .before .before .read-transition .result) (g .0 .0) (c .before .before .before .read-transition .ensures) (g .1) in
-    rw (upto-bad (transitionAt (a .s .now) (a .n) (a .k)) (a .c .at) (l .i) (a .m) (omega arith) (l .inv .4) x) refl
+    let went = c .before .before .before .read-transition in
+    let read = transitionAt (a .s .now) (a .n) (a .k) in
+    let x = line-bad (a .s .now) (a .k) (read (l .here .at)) (l .i) (l .lines) (went .result) (went .last .1 .1 .1 .1 .0) (g .0 .0) (went .ensures) (g .1) in
+    rw (upto-bad read (a .c .at) (l .i) (a .m) (omega arith) (l .inv .4) x) refl
 
 returns-2 : tie.Need-returns-2 Inv-loop μ-loop
 returns-2 c =
@@ -89,13 +73,11 @@ read-transitions-spec =
     Inv-loop
     μ-loop
     loop-holds
-    read-transition-requires
-    enum-known-g
-    mul-lines
-    element-write-lines
-    add-i
-    loop-less
+    (λ c κs. omega arith)
+    (λ c. search needs)
+    (λ c. omega arith)
+    (λ c. omega arith)
     loop-again
-    enum-known-g-2
+    (λ c. search needs)
     returns
     returns-2)
