@@ -22,7 +22,7 @@ use Rattle.same.specs.Histories.{refAfter, runAfter}
 use Rattle.promises.specs.Demand3.{codeIn, Demand3}
 use Rattle.promises.specs.Length.{wordsOf, LengthRule}
 use Rattle.promises.specs.Ignored.{InputsIgnored}
-use Rattle.promises.specs.Held.{HeldChangesNone}
+use Rattle.promises.specs.Hold.{HoldChangesNone}
 use Rattle.promises.specs.Worthless.{NoInventedRoom, OneRunner}
 use Rattle.translate.specs.declared.Translated.{Translated}
 use Rattle.answer.specs.Number.{numberOf, placeOf}
@@ -96,8 +96,8 @@ held-same wait time few = go (leb wait time) refl
     go true e = le-leb wait (min time 16777215) (omega (arith, leb-true wait time e))
     go false e = lt-leb wait (min time 16777215) (omega (arith, leb-false wait time e))
 
-pub held-changes-none : HeldChangesNone
-held-changes-none s acc =
+pub hold-changes-none : HoldChangesNone
+hold-changes-none s acc =
     let r = accepted-rules s acc in (
       r .0,
       r .1,

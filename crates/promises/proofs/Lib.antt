@@ -6,3 +6,4 @@ pub mod TableProof
 pub mod SingleProof
 pub mod WorthlessProof
 pub mod Closing
+pub mod Promises

@@ -5,4 +5,6 @@ pub mod Ignored
 pub mod Table
 pub mod Worthless
 pub mod Single
-pub mod Held
+pub mod Hold
+pub mod Passes
+pub mod Promises
