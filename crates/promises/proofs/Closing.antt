@@ -15,11 +15,13 @@ use Rattle.scan.specs.declared.Scanned.{Scanned}
 use Rattle.scan.specs.Scan.{scanOf, scanSheet}
 use Rattle.machine.specs.Run.{runCode}
 use Rattle.translate.specs.declared.Cold.{Cold}
+use Rattle.translate.specs.Translation.{translate}
 use Rattle.translate.specs.Writing.{Written, codeOf, translateInto}
 use Rattle.same.specs.Same.{embed}
 use Rattle.promises.specs.Moves.{MovesAsPublished, OneMove}
 use Rattle.same.specs.Histories.{refAfter, runAfter}
 use Rattle.promises.specs.Demand3.{codeIn, Demand3}
+use Rattle.promises.specs.Order.{BlocksInOrder}
 use Rattle.promises.specs.Length.{wordsOf, LengthRule}
 use Rattle.promises.specs.Ignored.{InputsIgnored}
 use Rattle.promises.specs.Hold.{HoldChangesNone}
@@ -27,6 +29,7 @@ use Rattle.promises.specs.Worthless.{NoInventedRoom, OneRunner}
 use Rattle.translate.specs.declared.Translated.{Translated}
 use Rattle.answer.specs.Number.{numberOf, placeOf}
 use Rattle.same.proofs.AcceptedLaws.{scan-is, cold-scan-is, cold-run-is}
+use Rattle.same.proofs.OrderProof.{block-order}
 use Rattle.same.proofs.CheckProof.{check-code}
 use Rattle.moves.proofs.MovesProof.{moves-scan, moves-only}
 use Rattle.same.proofs.FollowsProof.{run-is, follows}
@@ -106,6 +109,12 @@ hold-changes-none s acc =
           let few : transitionOf (r .0) i .wait ≤ 16777215 = omega (arith, r .3 .fields i l .wait) in
           (few, λ time. held-same (transitionOf (r .0) i .wait) time few),
     )
+
+pub blocks-in-order : BlocksInOrder
+unfolding translate
+blocks-in-order s acc =
+    let r = accepted-rules s acc in
+    (r .0, r .1, r .2, block-order (r .0) (r .3), refl)
 
 pub length-rule : LengthRule
 length-rule s acc =

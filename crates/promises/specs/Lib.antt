@@ -1,4 +1,5 @@
 pub mod Moves
+pub mod Order
 pub mod Length
 pub mod Demand3
 pub mod Ignored
