@@ -24,7 +24,7 @@ half-pow s = rw pow-succ' (omega arith)
 odd-pow : (s : ℕ) → 2 ^ suc s % 2 ≡ 0
 odd-pow s = rw pow-succ' (omega arith)
 
-bit-zero : (i : ℕ) → getBit 0 i ≡ false
+pub bit-zero : (i : ℕ) → getBit 0 i ≡ false
 unfolding getBit
 bit-zero zero = refl
 bit-zero (suc i) = bit-zero i

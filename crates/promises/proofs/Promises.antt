@@ -17,6 +17,7 @@ use Rattle.promises.proofs.Closing.{
   one-move,
   inputs-ignored,
   hold-changes-none,
+  blocks-in-order,
   length-rule,
   no-invented-room,
   one-runner,
@@ -40,6 +41,7 @@ promises = record {
   one-move = one-move;
   inputs-ignored = inputs-ignored;
   hold-changes-none = hold-changes-none;
+  blocks-in-order = blocks-in-order;
   length-rule = length-rule;
   no-invented-room = no-invented-room;
   table = table;

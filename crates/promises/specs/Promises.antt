@@ -9,6 +9,7 @@ use Rattle.refusals.specs.Left.{Left}
 use Rattle.promises.specs.Single.{SingleOutcome}
 use Rattle.promises.specs.Moves.{MovesAsPublished, OneMove}
 use Rattle.promises.specs.Ignored.{InputsIgnored}
+use Rattle.promises.specs.Order.{BlocksInOrder}
 use Rattle.promises.specs.Length.{LengthRule}
 use Rattle.promises.specs.Hold.{HoldChangesNone}
 use Rattle.promises.specs.Table.{Table}
@@ -39,6 +40,8 @@ pub record Promises : Type 0 where
   pub inputs-ignored : InputsIgnored
   -- "holding it there changes no comparison"
   pub hold-changes-none : HoldChangesNone
+  -- "a block for each transition, by source and then by priority"
+  pub blocks-in-order : BlocksInOrder
   -- the code's length, and what ROOM answers; no place is invented
   pub length-rule : LengthRule
   pub no-invented-room : NoInventedRoom

@@ -3,7 +3,7 @@ use mathlib.Core.Path.{_≡_, refl, _∙_}
 use mathlib.Core.Logic.{_≢_, ⊎-elim}
 use mathlib.Core.Bool.{Bool, true, false, _&&_}
 use mathlib.Core.List.{List}
-use Prim.Native.Nat.{ℕ, _+_, _*_, _≤_, _<_}
+use Prim.Native.Nat.{ℕ, _+_, _*_, _/_, _%_, _≤_, _<_}
 use native.Mathlib.Nat.{eq-or-lt-of-le, le-of-suc-le-suc}
 use native.Mathlib.Numerals.{add-one}
 use native.Mathlib.Omega.{arith}
@@ -14,9 +14,10 @@ use lib.Seq.{getD-set-same, getD-set-other}
 use Rattle.answer.specs.Lowest.{anyBelow, firstBelow}
 use Rattle.answer.specs.declared.Found.the-variants.{At, Nothing}
 use Rattle.answer.proofs.Laws.{any-more, any-hit, any-same, first-more, first-hit, first-same}
-use Rattle.reader.specs.declared.Line.{Line}
-use Rattle.reader.specs.Packing.{lineAt}
-use Rattle.sheet.specs.Lines.{clashBelow, firstClash, Keys, alikeBelow, firstAlike}
+use Rattle.reader.specs.Packing.{unpack, lineAt}
+use Rattle.sheet.specs.Lines.{besides, clashLines, clashBelow, firstClash, keyOf, Keys, alikeBelow, firstAlike}
+use Rattle.sheet.specs.declared.Clash.{Clash}
+use Rattle.sheet.specs.declared.Clash.the-variants as clash
 use Rattle.sheet.proofs.SearchLaws.{search-end}
 
 module _ (keys : List ℕ) where
@@ -53,15 +54,6 @@ module _ (keys : List ℕ) where
   unfolding firstAlike
   clash-end later m l h = search-end (λ j. alikeBelow keys j j) m later l h
 
--- so the search goes by the keys
-pub by-keys : (same : Line → Line → Bool) (lines : List ℕ) (m : ℕ) (keys : List ℕ) → Keys same lines m keys
-    → firstAlike keys m ≡ firstClash same lines m
-unfolding firstAlike firstClash
-by-keys same lines m keys h =
-    first-same (λ j. alikeBelow keys j j) (λ j. clashBelow same lines j j) m
-    λ j l. any-same (λ i. eqb (getD keys i 0) (getD keys j 0)) (λ i. same (lineAt lines i) (lineAt lines j)) j
-    λ i b. h i j (omega arith) l
-
 -- a key made of two bytes is another one where both bytes are the other's
 key-same : (a b c d : ℕ) → b < 256 → d < 256 → eqb (a * 256 + b) (c * 256 + d) ≡ eqb a c && eqb b d
 key-same a b c d l m = go (eqb a c) refl (eqb b d) refl
@@ -75,23 +67,26 @@ key-same a b c d l m = go (eqb a c) refl (eqb b d) refl
         let n : a ≢ c = eqb-false a c p in
         ne-eqb (a * 256 + b) (c * 256 + d) (λ (e : a * 256 + b ≡ c * 256 + d). n (omega arith))
 
--- the first i keys are made of their lines' sources and of another byte of them
-module _ (byte : Line → ℕ) (lines : List ℕ) where
-  abbrev pub keyOf : ℕ → ℕ
-  keyOf i = lineAt lines i .source * 256 + byte (lineAt lines i)
+-- what an entry of the array holds is small
+small : (c : Clash) (w : ℕ) → besides c (unpack w) < 256
+unfolding unpack
+small clash.Pair w = omega arith
+small clash.Rank w = omega arith
 
-  abbrev pub Made : List ℕ → ℕ → Type 0
-  Made keys i = (j : ℕ) → j < i → (getD keys j 0 ≡ keyOf j) × (byte (lineAt lines j) < 256)
+keys-same : (c : Clash) (v w : ℕ) → eqb (keyOf c (unpack v)) (keyOf c (unpack w)) ≡ clashLines c (unpack v) (unpack w)
+keys-same c v w = key-same (unpack v .source) (besides c (unpack v)) (unpack w .source) (besides c (unpack w)) (small c v) (small c w)
 
-  pub made-more : (keys : List ℕ) (i : ℕ) → i < length keys → byte (lineAt lines i) < 256 → Made keys i → Made (set keys i (keyOf i)) (i + 1)
-  made-more keys i l b f j h =
-      ⊎-elim (λ (q : j ≡ i). rw q (getD-set-same keys i (keyOf i) 0 l, b))
-      (λ (q : j < i). let n : j ≢ i = (λ z. omega arith) in (getD-set-other keys i j (keyOf i) 0 n ∙ f j q .0, f j q .1))
+module _ (c : Clash) (lines : List ℕ) where
+  pub keys-more : (keys : List ℕ) (i : ℕ) → i < length keys → Keys c lines i keys → Keys c lines (i + 1) (set keys i (keyOf c (lineAt lines i)))
+  keys-more keys i l f j h =
+      ⊎-elim (λ (q : j ≡ i). rw q (getD-set-same keys i (keyOf c (lineAt lines i)) 0 l))
+      (λ (q : j < i). let n : j ≢ i = (λ z. omega arith) in getD-set-other keys i j (keyOf c (lineAt lines i)) 0 n ∙ f j q)
       (eq-or-lt-of-le (le-of-suc-le-suc (rw add-one at h)))
 
-  -- so two of them are equal where both are
-  pub made-keys : (keys : List ℕ) (m i : ℕ) → m ≤ i → Made keys i → Keys (λ t u. eqb (t .source) (u .source) && eqb (byte t) (byte u)) lines m keys
-  made-keys keys m n e f i j l b =
-      let t = f i (omega arith) in
-      let u = f j (omega arith) in
-      rw (t .0, u .0) (key-same (lineAt lines i .source) (byte (lineAt lines i)) (lineAt lines j .source) (byte (lineAt lines j)) (t .1) (u .1))
+  -- so the search goes by the keys
+  pub by-keys : (m : ℕ) (keys : List ℕ) → Keys c lines m keys → firstAlike keys m ≡ firstClash c lines m
+  unfolding firstAlike firstClash
+  by-keys m keys h =
+      first-same (λ j. alikeBelow keys j j) (λ j. clashBelow c lines j j) m
+      λ j l. any-same (λ i. eqb (getD keys i 0) (getD keys j 0)) (λ i. clashLines c (lineAt lines i) (lineAt lines j)) j
+      λ i b. rw (h i (omega arith), h j l) (keys-same c (getD lines i 0) (getD lines j 0))

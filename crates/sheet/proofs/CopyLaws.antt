@@ -8,7 +8,6 @@ use Rattle.answer.specs.Lowest.{anyBelow, firstBelow}
 use Rattle.answer.proofs.Laws.{any-same, first-same}
 use Rattle.reader.specs.Sheet.{Transition, Sheet, count, transitionOf, rowOf}
 use Rattle.reader.specs.Decoding.{Copy}
-use Rattle.reader.specs.declared.Line.{Line}
 use Rattle.reader.specs.declared.Decoded.{Decoded}
 use Rattle.sheet.specs.Judging.{
   loops,
@@ -24,36 +23,39 @@ use Rattle.sheet.specs.Judging.{
 }
 use Rattle.reader.specs.Packing.{lineAt}
 use Rattle.sheet.specs.Lines.{
-  loopLine,
-  pairLines,
-  rankLines,
+  breaksLine,
+  firstBreak,
+  clashLines,
   firstClash,
   homeLine,
   hasHome,
   lacksHomeLine,
-  homeFormLine,
-  gateLine,
   activityRow,
   judgeForms,
   judgeLines,
 }
+use Rattle.sheet.specs.declared.Rule.{Rule}
+use Rattle.sheet.specs.declared.Rule.the-variants as rule
+use Rattle.sheet.specs.declared.Clash.{Clash}
+use Rattle.sheet.specs.declared.Clash.the-variants as clash
 use Rattle.sheet.proofs.FormLaws.{off-form, gated-form}
 use Rattle.sheet.proofs.RowLaws.{bit-first}
 
 module _ (s : List ℕ) (d : Decoded) (rows lines : List ℕ) (a : Sheet) (k : Copy s d rows lines a) where
   -- a test of one line and a test of its transition that agree
-  lines-same : (p : Line → Bool) (q : Transition → Bool) → ((i : ℕ) → i < count a → p (lineAt lines i) ≡ q (transitionOf a i))
-      → firstBelow (λ i. p (lineAt lines i)) (d .transitions) ≡ firstBelow (λ i. q (transitionOf a i)) (count a)
-  lines-same p q h = rw (k .transitions) (first-same (λ i. p (lineAt lines i)) (λ i. q (transitionOf a i)) (count a) h)
+  lines-same : (r : Rule) (q : Transition → Bool) → ((i : ℕ) → i < count a → breaksLine r (lineAt lines i) ≡ q (transitionOf a i))
+      → firstBreak r lines (d .transitions) ≡ firstBelow (λ i. q (transitionOf a i)) (count a)
+  unfolding firstBreak
+  lines-same r q h = rw (k .transitions) (first-same (λ i. breaksLine r (lineAt lines i)) (λ i. q (transitionOf a i)) (count a) h)
 
-  clash-same : (p : Line → Line → Bool) (q : Transition → Transition → Bool)
-      → ((i j : ℕ) → i < count a → j < count a → p (lineAt lines i) (lineAt lines j) ≡ q (transitionOf a i) (transitionOf a j))
-      → firstClash p lines (d .transitions) ≡ firstBelow (clashes q a) (count a)
+  clash-same : (c : Clash) (q : Transition → Transition → Bool)
+      → ((i j : ℕ) → i < count a → j < count a → clashLines c (lineAt lines i) (lineAt lines j) ≡ q (transitionOf a i) (transitionOf a j))
+      → firstClash c lines (d .transitions) ≡ firstBelow (clashes q a) (count a)
   unfolding firstClash clashes
-  clash-same p q h =
+  clash-same c q h =
       rw (k .transitions)
-      (first-same (λ j. anyBelow (λ i. p (lineAt lines i) (lineAt lines j)) j) (clashes q a) (count a)
-      λ j l. any-same (λ i. p (lineAt lines i) (lineAt lines j)) (λ i. q (transitionOf a i) (transitionOf a j)) j
+      (first-same (λ j. anyBelow (λ i. clashLines c (lineAt lines i) (lineAt lines j)) j) (clashes q a) (count a)
+      λ j l. any-same (λ i. clashLines c (lineAt lines i) (lineAt lines j)) (λ i. q (transitionOf a i) (transitionOf a j)) j
       λ i b. h i j (omega arith) l)
 
   home-same : firstBelow (lacksHomeLine lines (d .transitions)) (d .states) ≡ firstBelow (lacksHome a) (a .states)
@@ -72,12 +74,12 @@ module _ (s : List ℕ) (d : Decoded) (rows lines : List ℕ) (a : Sheet) (k : C
   unfolding judgeLines judgeForms judge
   judge-same =
       rw (
-        lines-same loopLine loops (λ i l. rw (k .line i l .source, k .line i l .destination)),
-        clash-same pairLines samePair (λ i j l b. rw (k .line i l .source, k .line j b .source, k .line i l .destination, k .line j b .destination)),
-        clash-same rankLines sameRank (λ i j l b. rw (k .line i l .source, k .line j b .source, k .line i l .priority, k .line j b .priority)),
+        lines-same rule.Loop loops (λ i l. rw (k .line i l .source, k .line i l .destination)),
+        clash-same clash.Pair samePair (λ i j l b. rw (k .line i l .source, k .line j b .source, k .line i l .destination, k .line j b .destination)),
+        clash-same clash.Rank sameRank (λ i j l b. rw (k .line i l .source, k .line j b .source, k .line i l .priority, k .line j b .priority)),
         home-same,
-        lines-same homeFormLine lacksHomeForm
+        lines-same rule.HomeForm lacksHomeForm
             (λ i l. rw (k .line i l .destination, k .line i l .priority, k .line i l .wait, k .line i l .form, off-form (transitionOf a i .condition))),
-        lines-same gateLine lacksGate (λ i l. rw (k .line i l .source, k .line i l .form, gated-form (transitionOf a i .condition))),
+        lines-same rule.Gate lacksGate (λ i l. rw (k .line i l .source, k .line i l .form, gated-form (transitionOf a i .condition))),
         activity-same,
       )

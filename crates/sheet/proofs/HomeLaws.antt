@@ -9,24 +9,16 @@ use lib.Dec.{ltb, eqb, eqb·zero-suc, eqb·suc-zero, eqb·suc-suc}
 use borrow.Author.Tests.{ltb-true, ltb-false, lt-ltb, ne-eqb, eq-eqb}
 use Rattle.answer.specs.Lowest.{anyBelow, firstBelow}
 use Rattle.answer.specs.declared.Found.the-variants.{Nothing}
+use Rattle.answer.proofs.BoolLaws.{and-true as both}
 use Rattle.answer.proofs.Laws.{first-same}
 use Rattle.bits.specs.Word.{getBit, putBit}
+use Rattle.bits.proofs.WordLaws.{bit-zero}
 use Rattle.reader.specs.Packing.{lineAt}
 use Rattle.sheet.specs.Lines.{homeLine, hasHome, Homes, lacksHomeLine, lacksBit}
 
-and-left : (a b : Bool) → a && b ≡ true → a ≡ true
-and-left true b e = refl
-and-left false b e = e
-
 -- the test that lets a source have a bit
 pub source-fits : (a : Bool) (source : ℕ) → a && ltb source 32 ≡ true → source < 32
-source-fits true source e = ltb-true source 32 e
-source-fits false source e = absurd (let z : _≡_ {A = ℕ} 0 1 = cc in omega arith)
-
-bit-zero : (i : ℕ) → getBit 0 i ≡ false
-unfolding getBit
-bit-zero zero = refl
-bit-zero (suc i) = bit-zero i
+source-fits a source e = ltb-true source 32 (both a (ltb source 32) e .1)
 
 -- setting bit i sets no other
 bit-set : (w i j : ℕ) → getBit (putBit w i true) j ≡ getBit w j || eqb i j
@@ -60,7 +52,7 @@ module _ (lines : List ℕ) where
       → Homes lines (i + 1) (putBit w (lineAt lines i .source) true)
   homes-set i w h e s l =
       let t = lineAt lines i in
-      rw (bit-set w (t .source) s, h s l, more i s, and-left (eqb (t .destination) 0) (ltb (t .source) 32) e, and-true (eqb (t .source) s))
+      rw (bit-set w (t .source) s, h s l, more i s, both (eqb (t .destination) 0) (ltb (t .source) 32) e .0, and-true (eqb (t .source) s))
 
   -- another one changes nothing; a source of 32 or more is no state
   pub homes-keep : (i w : ℕ) → Homes lines i w → eqb (lineAt lines i .destination) 0 && ltb (lineAt lines i .source) 32 ≡ false

@@ -1,5 +1,5 @@
 -- The rules 7 to 13 over the decoded lines and rows, as the code tests them: not needed to read the promises.
-use Prim.Native.Nat.{ℕ, _<_}
+use Prim.Native.Nat.{ℕ, _+_, _*_, _<_}
 use mathlib.Core.Path.{_≡_}
 use mathlib.Core.Bool.{Bool, not, _&&_, _||_}
 use mathlib.Core.List.{List}
@@ -14,28 +14,45 @@ use Rattle.bits.specs.Word.{getBit}
 use Rattle.reader.specs.declared.Line.{Line}
 use Rattle.reader.specs.declared.Decoded.{Decoded}
 use Rattle.reader.specs.Packing.{lineAt}
+use Rattle.sheet.specs.declared.Rule.{Rule}
+use Rattle.sheet.specs.declared.Rule.the-variants as rule
+use Rattle.sheet.specs.declared.Clash.{Clash}
+use Rattle.sheet.specs.declared.Clash.the-variants as clash
 use Rattle.sheet.specs.Judging.{differs}
 
-abbrev pub loopLine : Line → Bool
-loopLine t = eqb (t .source) (t .destination)
+-- 7 LOOP, 11 HOME-FORM and 12 GATE of a line
+abbrev pub breaksLine : Rule → Line → Bool
+breaksLine rule.Loop t = eqb (t .source) (t .destination)
+breaksLine rule.HomeForm t = eqb (t .destination) 0 && not (eqb (t .priority) 0 && eqb (t .wait) 0 && eqb (t .form) 2)
+breaksLine rule.Gate t = eqb (t .source) 0 && not (eqb (t .form) 1 || eqb (t .form) 3)
 
-abbrev pub pairLines : Line → Line → Bool
-pairLines t u = eqb (t .source) (u .source) && eqb (t .destination) (u .destination)
+-- the lowest line that breaks the rule
+unfoldable pub firstBreak : Rule → List ℕ → ℕ → Found
+firstBreak r lines m = firstBelow (λ i. breaksLine r (lineAt lines i)) m
 
-abbrev pub rankLines : Line → Line → Bool
-rankLines t u = eqb (t .source) (u .source) && eqb (t .priority) (u .priority)
+-- what must be equal besides the sources: 8 PAIR the destinations, 9 RANK the priorities
+abbrev pub besides : Clash → Line → ℕ
+besides clash.Pair t = t .destination
+besides clash.Rank t = t .priority
+
+abbrev pub clashLines : Clash → Line → Line → Bool
+clashLines c t u = eqb (t .source) (u .source) && eqb (besides c t) (besides c u)
 
 -- line `later` clashes with some line before `earlier`
-abbrev pub clashBelow : (Line → Line → Bool) → List ℕ → ℕ → ℕ → Bool
-clashBelow same lines later earlier = anyBelow (λ i. same (lineAt lines i) (lineAt lines later)) earlier
+abbrev pub clashBelow : Clash → List ℕ → ℕ → ℕ → Bool
+clashBelow c lines later earlier = anyBelow (λ i. clashLines c (lineAt lines i) (lineAt lines later)) earlier
 
 -- the lowest line that clashes with an earlier one
-unfoldable pub firstClash : (Line → Line → Bool) → List ℕ → ℕ → Found
-firstClash same lines m = firstBelow (λ later. clashBelow same lines later later) m
+unfoldable pub firstClash : Clash → List ℕ → ℕ → Found
+firstClash c lines m = firstBelow (λ later. clashBelow c lines later later) m
 
--- two of the m keys are equal where their lines clash
-abbrev pub Keys : (Line → Line → Bool) → List ℕ → ℕ → List ℕ → Type 0
-Keys same lines m keys = (i j : ℕ) → i < m → j < m → eqb (getD keys i 0) (getD keys j 0) ≡ same (lineAt lines i) (lineAt lines j)
+-- both in one number
+abbrev pub keyOf : Clash → Line → ℕ
+keyOf c t = t .source * 256 + besides c t
+
+-- the first m keys
+abbrev pub Keys : Clash → List ℕ → ℕ → List ℕ → Type 0
+Keys c lines m keys = (i : ℕ) → i < m → getD keys i 0 ≡ keyOf c (lineAt lines i)
 
 -- the key of `later` is that of some line before `earlier`
 abbrev pub alikeBelow : List ℕ → ℕ → ℕ → Bool
@@ -63,12 +80,6 @@ lacksHomeLine lines m s = ltb 0 s && not (hasHome lines m s)
 abbrev pub lacksBit : ℕ → ℕ → Bool
 lacksBit word s = ltb 0 s && not (getBit word s)
 
-abbrev pub homeFormLine : Line → Bool
-homeFormLine t = eqb (t .destination) 0 && not (eqb (t .priority) 0 && eqb (t .wait) 0 && eqb (t .form) 2)
-
-abbrev pub gateLine : Line → Bool
-gateLine t = eqb (t .source) 0 && not (eqb (t .form) 1 || eqb (t .form) 3)
-
 abbrev pub activityRow : List ℕ → ℕ → Bool
 activityRow rows s = differs (getBit (getD rows s 0) 0) (eqb s 0)
 
@@ -76,14 +87,14 @@ activityRow rows s = differs (getBit (getD rows s 0) 0) (eqb s 0)
 unfoldable pub judgeForms : List ℕ → ℕ → List ℕ → ℕ → Checked
 judgeForms lines m rows n =
     let thirteen = refuseAt Activity (firstBelow (activityRow rows) n) Accepted in
-    let twelve = refuseAt Gate (firstBelow (λ i. gateLine (lineAt lines i)) m) thirteen in
-    let eleven = refuseAt HomeForm (firstBelow (λ i. homeFormLine (lineAt lines i)) m) twelve in
+    let twelve = refuseAt Gate (firstBreak rule.Gate lines m) thirteen in
+    let eleven = refuseAt HomeForm (firstBreak rule.HomeForm lines m) twelve in
     refuseAt NoHome (firstBelow (lacksHomeLine lines m) n) eleven
 
 -- the numbers 7 to 13
 unfoldable pub judgeLines : Decoded → List ℕ → List ℕ → Checked
 judgeLines d rows lines =
     let ten = judgeForms lines (d .transitions) rows (d .states) in
-    let nine = refuseAt Rank (firstClash rankLines lines (d .transitions)) ten in
-    let eight = refuseAt Pair (firstClash pairLines lines (d .transitions)) nine in
-    refuseAt Loop (firstBelow (λ i. loopLine (lineAt lines i)) (d .transitions)) eight
+    let nine = refuseAt Rank (firstClash clash.Rank lines (d .transitions)) ten in
+    let eight = refuseAt Pair (firstClash clash.Pair lines (d .transitions)) nine in
+    refuseAt Loop (firstBreak rule.Loop lines (d .transitions)) eight

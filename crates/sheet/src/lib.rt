@@ -4,16 +4,16 @@ use answer::Found;
 use answer::Refusal;
 use reader::Decoded;
 use reader::How;
+use reader::Line;
 ghost use mathlib.Core.Path.{_≡_};
 ghost use mathlib.Core.List.{List};
 ghost use Prim.Native.Nat.{ℕ, _≤_};
 ghost use lib.ListN.{length};
 ghost use Rattle.answer.specs.Lowest.{firstBelow};
 ghost use Rattle.reader.specs.Sheet.{Sheet};
-ghost use Rattle.reader.specs.Packing.{lineAt};
 ghost use Rattle.reader.specs.Decoding.{Copy};
 ghost use Rattle.sheet.specs.Judging.{judge, ChecksSheet};
-ghost use Rattle.sheet.specs.Lines.{loopLine, pairLines, rankLines, Keys, firstAlike, Homes, lacksHomeLine, homeFormLine, gateLine, activityRow, judgeForms};
+ghost use Rattle.sheet.specs.Lines.{breaksLine, firstBreak, keyOf, Keys, firstAlike, Homes, lacksHomeLine, activityRow, judgeForms};
 ghost use Rattle.sheet.specs.Opening.{Opens};
 
 // What a sheet's bytes are found to be: the verdict, and the decoded copy where it accepts.
@@ -22,15 +22,42 @@ pub struct Opened {
     pub decoded: Decoded,
 }
 
-// 7 LOOP: the first transition back to its own source.
-fn first_loop(lines: &[u64; 128], m: usize) -> Found
+// The rules that look at one transition by itself.
+enum Rule {
+    Loop,
+    HomeForm,
+    Gate,
+}
+
+// The rules by which two transitions of one source clash.
+enum Clash {
+    Pair,
+    Rank,
+}
+
+// 7 LOOP: back to its own source. 11 HOME-FORM: to 0, and not priority 0, wait 0 and NOT input 0.
+// 12 GATE: from 0, and its condition has neither form; no value of the condition is asked.
+fn breaks(rule: Rule, t: Line) -> bool
+    ensures { λ r. ⌜ r ≡ breaksLine rule t ⌝ }
+{
+    match rule {
+        Rule::Loop => t.source == t.destination,
+        Rule::HomeForm => {
+            (t.destination == 0) & !((t.priority == 0) & (t.wait == 0) & (t.form == 2))
+        }
+        Rule::Gate => (t.source == 0) & !((t.form == 1) | (t.form == 3)),
+    }
+}
+
+// The first transition that breaks the rule.
+fn first_line(lines: &[u64; 128], m: usize, rule: Rule) -> Found
     requires { ⌜ m ≤ 128 ⌝ }
-    ensures { λ r. ⌜ r ≡ firstBelow (λ i. loopLine (lineAt (now (lines .entry)) i)) m ⌝ }
+    ensures { λ r. ⌜ r ≡ firstBreak rule (now (lines .entry)) m ⌝ }
 {
     let mut i: usize = 0;
     while i < m {
         let t = reader::unpacked(lines[i]);
-        if t.source == t.destination {
+        if breaks(rule, t) {
             return Found::At(i);
         }
         i += 1;
@@ -38,31 +65,27 @@ fn first_loop(lines: &[u64; 128], m: usize) -> Found
     Found::Nothing
 }
 
-// A transition's key for PAIR: two of them are equal where both its states are.
-fn pair_keys(lines: &[u64; 128], m: usize) -> [u16; 128]
-    requires { ⌜ m ≤ 128 ⌝ }
-    ensures { λ r. ⌜ Keys pairLines (now (lines .entry)) m r ⌝ }
+// A transition's key: two of them are equal where the sources are and, for PAIR the destinations, for RANK the priorities.
+fn key(clash: Clash, t: Line) -> u16
+    ensures { λ r. ⌜ r ≡ keyOf clash t ⌝ }
 {
-    let mut keys = [0u16; 128];
-    let mut i: usize = 0;
-    while i < m {
-        let t = reader::unpacked(lines[i]);
-        keys[i] = (t.source as u16) * 256 + (t.destination as u16);
-        i += 1;
+    let source = (t.source as u16) * 256;
+    match clash {
+        Clash::Pair => source + (t.destination as u16),
+        Clash::Rank => source + (t.priority as u16),
     }
-    keys
 }
 
-// A transition's key for RANK: two of them are equal where source and priority are.
-fn rank_keys(lines: &[u64; 128], m: usize) -> [u16; 128]
+// The keys of the first m transitions.
+fn keys_of(lines: &[u64; 128], m: usize, clash: Clash) -> [u16; 128]
     requires { ⌜ m ≤ 128 ⌝ }
-    ensures { λ r. ⌜ Keys rankLines (now (lines .entry)) m r ⌝ }
+    ensures { λ r. ⌜ Keys clash (now (lines .entry)) m r ⌝ }
 {
     let mut keys = [0u16; 128];
     let mut i: usize = 0;
     while i < m {
         let t = reader::unpacked(lines[i]);
-        keys[i] = (t.source as u16) * 256 + (t.priority as u16);
+        keys[i] = key(clash, t);
         i += 1;
     }
     keys
@@ -124,38 +147,6 @@ fn first_no_home(lines: &[u64; 128], m: usize, n: usize) -> Found
     Found::Nothing
 }
 
-// 11 HOME-FORM: the first transition to 0 that is not priority 0, wait 0 and NOT input 0.
-fn first_home_form(lines: &[u64; 128], m: usize) -> Found
-    requires { ⌜ m ≤ 128 ⌝ }
-    ensures { λ r. ⌜ r ≡ firstBelow (λ i. homeFormLine (lineAt (now (lines .entry)) i)) m ⌝ }
-{
-    let mut i: usize = 0;
-    while i < m {
-        let t = reader::unpacked(lines[i]);
-        if (t.destination == 0) & !((t.priority == 0) & (t.wait == 0) & (t.form == 2)) {
-            return Found::At(i);
-        }
-        i += 1;
-    }
-    Found::Nothing
-}
-
-// 12 GATE: the first transition from 0 whose condition has neither form; no value of the condition is asked.
-fn first_gate(lines: &[u64; 128], m: usize) -> Found
-    requires { ⌜ m ≤ 128 ⌝ }
-    ensures { λ r. ⌜ r ≡ firstBelow (λ i. gateLine (lineAt (now (lines .entry)) i)) m ⌝ }
-{
-    let mut i: usize = 0;
-    while i < m {
-        let t = reader::unpacked(lines[i]);
-        if (t.source == 0) & !((t.form == 1) | (t.form == 3)) {
-            return Found::At(i);
-        }
-        i += 1;
-    }
-    Found::Nothing
-}
-
 // 13 ACTIVITY: the first state whose output 0 is not whether it is state 0.
 fn first_activity(rows: &[u16; 32], n: usize) -> Found
     requires { ⌜ n ≤ 32 ⌝ }
@@ -181,11 +172,11 @@ fn judge_forms(lines: &[u64; 128], m: usize, rows: &[u16; 32], n: usize) -> Chec
     if let Found::At(s) = no_home {
         return Checked::Refused(Refusal::NoHome(s));
     }
-    let home_form = first_home_form(lines, m);
+    let home_form = first_line(lines, m, Rule::HomeForm);
     if let Found::At(i) = home_form {
         return Checked::Refused(Refusal::HomeForm(i));
     }
-    let gate = first_gate(lines, m);
+    let gate = first_line(lines, m, Rule::Gate);
     if let Found::At(i) = gate {
         return Checked::Refused(Refusal::Gate(i));
     }
@@ -201,16 +192,16 @@ fn judge_decoded(d: Decoded, rows: &[u16; 32], lines: &[u64; 128]) -> Checked
     ensures { λ r. ⌜ ((s : List ℕ) (a : Sheet) → Copy s d (now (rows .entry)) (now (lines .entry)) a → r ≡ judge a) ⌝ }
 {
     let m = d.transitions;
-    let to_itself = first_loop(lines, m);
+    let to_itself = first_line(lines, m, Rule::Loop);
     if let Found::At(i) = to_itself {
         return Checked::Refused(Refusal::Loop(i));
     }
-    let pairs = pair_keys(lines, m);
+    let pairs = keys_of(lines, m, Clash::Pair);
     let pair = first_clash(&pairs, m);
     if let Found::At(i) = pair {
         return Checked::Refused(Refusal::Pair(i));
     }
-    let ranks = rank_keys(lines, m);
+    let ranks = keys_of(lines, m, Clash::Rank);
     let rank = first_clash(&ranks, m);
     if let Found::At(i) = rank {
         return Checked::Refused(Refusal::Rank(i));
