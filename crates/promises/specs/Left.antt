@@ -13,7 +13,7 @@ use Rattle.reader.specs.Sheet.{Sheet}
 use Rattle.reader.specs.Reading.{readSheet}
 use Rattle.sheet.specs.Judging.{checkSheet}
 use Rattle.scan.specs.declared.State.{State}
-use Rattle.scan.specs.Scan.{scanSheet, coldScan}
+use Rattle.scan.specs.Scan.{stateWith, scanSheet, coldScan}
 use Rattle.machine.specs.declared.Record.{Record}
 use Rattle.faults.specs.Check.{checkCode}
 use Rattle.machine.specs.Run.{runCode}
@@ -35,7 +35,7 @@ pub record Left : Type 0 where
       × (translateInto s buffer .answer .length ≡ length (codeOf a))
   -- "A cold start refused for its sheet returns a record of zeros."
   pub cold-scan : (s : List ℕ) (why : Refusal) → coldScan s .verdict ≡ Refused why
-      → coldScan s .«record» ≡ record { state = 0; outputs = 0; clock = 0 }
+      → coldScan s .«record» ≡ stateWith 0 0 0
   pub cold-run : (s : List ℕ) (why : Refusal) → coldRun s .verdict ≡ Refused why
       → coldRun s .«record» ≡ record { flags = 0; outputs = 0; clock = 0 }
   -- a refused sheet gets the same number and place from all; the cold starts answer as the check does, and the other two have 18 and 14 besides
