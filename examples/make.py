@@ -35,7 +35,7 @@ def sheet(inputs, outputs, states, transitions):
 
 NEITHER = ('not', ('or', 'A', 'B'))
 
-TWO_CONTACT = sheet(
+TWO_CONTACT = dict(
     inputs=['Activate', 'A', 'B'],
     outputs=['activity', 'Ready', 'EquivalentOut', 'Error'],
     states={
@@ -70,7 +70,7 @@ TWO_CONTACT = sheet(
     ])
 
 # A guard door with a lock. The drive may run only behind a locked door; a request to open stops it first.
-DOOR = sheet(
+DOOR = dict(
     inputs=['Activate', 'Request', 'Closed', 'Standstill'],
     outputs=['activity', 'Run', 'Unlock', 'Alarm'],
     states={
@@ -95,7 +95,8 @@ DOOR = sheet(
 
 if __name__ == '__main__':
     folder = os.path.dirname(os.path.abspath(__file__))
-    for name, made in [('two-contact.sheet', TWO_CONTACT), ('door.sheet', DOOR)]:
+    for name, described in [('two-contact.sheet', TWO_CONTACT), ('door.sheet', DOOR)]:
+        made = sheet(**described)
         path = os.path.join(folder, name)
         if '--check' not in sys.argv:
             with open(path, 'wb') as file:

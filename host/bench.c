@@ -13,7 +13,8 @@
 #define _POSIX_C_SOURCE 200809L
 
 #include "chmurzeta.h"
-#include "makers.h"
+#include "make_code.h"
+#include "make_sheets.h"
 #include "second.h"
 
 #include <stdio.h>

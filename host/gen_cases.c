@@ -35,7 +35,8 @@
  */
 
 #include "chmurzeta.h"
-#include "makers.h"
+#include "make_code.h"
+#include "make_sheets.h"
 #include "second.h"
 
 #include <stdio.h>
@@ -47,7 +48,7 @@ enum call { CHECK_SHEET = 1, CHECK_CODE, TRANSLATE, COLD_SCAN, COLD_RUN, SCAN, R
 static uint8_t file[1 << 20];
 static size_t size = 4;
 static uint32_t cases;
-static uint32_t tally[8][19];
+static uint32_t tally[8][NUMBERS];
 
 static struct plan plan;
 static struct packed packed;
@@ -352,7 +353,7 @@ int main(void)
     some_code();
     longest();
 
-    for (uint32_t number = 0; number <= 18; number++) {
+    for (uint32_t number = 0; number <= CHZ_NO_STATE; number++) {
         uint32_t seen = 0;
         for (int call = CHECK_SHEET; call <= RUN; call++) {
             seen += tally[call][number];

@@ -3,37 +3,52 @@
 # differ against each of them: every one must be caught. A differential test
 # that lets a wrong library pass is worth nothing, and this is how we know.
 #
-# A line below is a name, a bar, and the edit that makes the fault.
+# A line below is a name, a bar, and the edit that makes the fault. An edit
+# that changes nothing, or makes what does not compile, is a test that failed:
+# the others are still tried.
+#
+#     CC   the compiler, with what it needs to link
+#     RUN  what a program is run under
+#     OUT  where differ's objects are, and where the wrong libraries go
+#     DIFFER  those objects, all but the library
 
-set -eu
+set -u
 cc=${CC:-gcc}
 out=${OUT:-../target/host}
 dir=$out/mutants
-mkdir -p "$dir"
+mkdir -p "$dir" || exit 2
+sed -e 's/second_/chz_/g' second.c >"$dir/right.c" || exit 2
 
 caught=0
 missed=0
-while IFS='|' read -r name edit; do
-    case $name in '' | '#'*) continue ;; esac
-    name=$(echo "$name" | sed 's/ *$//')
-    file=$(echo "$name" | tr -c 'A-Za-z0-9\n' '_')
-    sed -e 's/second_/chz_/g' second.c >"$dir/right.c"
-    sed -e "$edit" "$dir/right.c" >"$dir/$file.c"
-    if cmp -s "$dir/right.c" "$dir/$file.c"; then
-        echo "NO SUCH PLACE  $name"
-        missed=$((missed + 1))
-        continue
-    fi
-    $cc -std=c11 -O1 -w -I../include -I. -c "$dir/$file.c" -o "$dir/mutant.o"
-    $cc "$out/differ.o" "$out/makers.o" "$out/second.o" "$dir/mutant.o" -o "$dir/mutant"
-    status=0
-    ${RUN:-} "$dir/mutant" >"$dir/answer" 2>&1 || status=$?
-    if [ "$status" = 1 ] || [ "$status" = 3 ]; then
-        caught=$((caught + 1))
-        echo "caught  $name: $(sed -n 's/^MISMATCH: //p' "$dir/answer") ($(sed -n 's/.*(family: \(.*\))/\1/p' "$dir/answer"))"
+
+miss() {
+    missed=$((missed + 1))
+    printf 'MISSED  %s: %s\n' "$name" "$1"
+}
+
+while IFS= read -r line; do
+    case $line in '' | '#'*) continue ;; esac
+    name=$(printf '%s\n' "${line%%|*}" | sed 's/ *$//')
+    edit=${line#*|}
+    file=$dir/$(printf '%s\n' "$name" | tr -c 'A-Za-z0-9\n' '_').c
+    if ! sed -e "$edit" "$dir/right.c" >"$file"; then
+        miss 'the edit is no edit'
+    elif cmp -s "$dir/right.c" "$file"; then
+        miss 'the edit changes nothing'
+    elif ! $cc -std=c11 -O1 -w -I../include -I. -c "$file" -o "$dir/mutant.o" 2>"$dir/answer" ||
+        ! $cc $DIFFER "$dir/mutant.o" -o "$dir/mutant" 2>"$dir/answer"; then
+        miss "it does not compile: $(head -n 1 "$dir/answer")"
     else
-        missed=$((missed + 1))
-        echo "MISSED  $name (status $status)"
+        ${RUN:-} "$dir/mutant" >"$dir/answer" 2>&1 </dev/null
+        status=$?
+        if [ "$status" = 1 ] || [ "$status" = 3 ]; then
+            caught=$((caught + 1))
+            printf 'caught  %s: %s (%s)\n' "$name" "$(sed -n 's/^MISMATCH: //p' "$dir/answer")" \
+                "$(sed -n 's/.*(family: \(.*\))/\1/p' "$dir/answer")"
+        else
+            miss "status $status"
+        fi
     fi
 done <<'LIST'
 # Easy to get wrong, by document 01
@@ -43,8 +58,8 @@ blocks in sheet order                  | s/key\[j - 1\] > k;/key[j - 1] > k \&\&
 scan adds the elapsed time afterwards  | s/now >= t->wait/*clock >= t->wait/
 run adds the elapsed time afterwards   | s/now >= operand/*clock >= operand/
 scan zeroes the clock where it stays   | s/^    \*clock = now;/    *clock = best ? now : 0;/
-R after the jump                       | s/code = put(code, R, t->source);//; s/code = put(code, JMPC, .*/&\n        code = put(code, R, t->source);/
-GATE judged by one try                 | s/^static struct answer judge(/static bool holds(const uint8_t *, uint32_t, uint32_t);\n&/; s/!(node\[0\] == INPUT_0 || (node\[0\] == NODE_AND && node\[1\] == INPUT_0))/holds(node, t[i].nodes, 0xFFFE)/
+R after the jump                       | s/code = put(code, R, t->source);//; s/code = put(code, JMPC, .*/& code = put(code, R, t->source);/
+GATE judged by one try                 | s/^static struct answer judge(/static bool holds(const uint8_t *, uint32_t, uint32_t); &/; s/!(node\[0\] == INPUT_0 || (node\[0\] == NODE_AND && node\[1\] == INPUT_0))/holds(node, t[i].nodes, 0xFFFE)/
 # Reading
 STATE-NO one late                      | s/refused(CHZ_STATE_NO, r.at - 5)/refused(CHZ_STATE_NO, r.at - 4)/
 state n allowed                        | s/field >= s->states/field > s->states/
@@ -72,7 +87,7 @@ PAIR not judged                        | s/if (reached\[t\[i\].source\] & bit)/i
 RANK not judged                        | s/if (\*half & bit)/if (0)/
 RANK forgets the high priorities       | s/uint64_t bit = UINT64_C(1) << t\[i\].priority % 64/uint64_t bit = UINT64_C(1) << t[i].priority/; s/ranks\[t\[i\].source\]\[t\[i\].priority \/ 64\]/ranks[t[i].source][0]/
 NO-HOME from state 2 on                | s/for (uint32_t state = 1;/for (uint32_t state = 2;/
-ACTIVITY judged before the others      | s/^    const struct transition \*t = s->transition;/&\n    if (!(s->row[0] \& 1)) return refused(CHZ_ACTIVITY, 0);/
+ACTIVITY judged before the others      | s/^    const struct transition \*t = s->transition;/& if (!(s->row[0] \& 1)) return refused(CHZ_ACTIVITY, 0);/
 ACTIVITY for state 0 alone             | s/active != (state == 0)/state == 0 \&\& !active/
 home with a wait                       | s/t\[i\].wait == 0 && //
 home with a priority                   | s/t\[i\].priority == 0 && //
@@ -136,5 +151,5 @@ a refused run brings the clock forward | s/struct answer a = judge_code(code, co
 a place left where accepted            | s/^    \*place = a.place;/    if (a.number) &/
 LIST
 
-echo "$caught wrong libraries caught, $missed missed"
-[ "$missed" = 0 ]
+printf '%d wrong libraries caught, %d missed\n' "$caught" "$missed"
+[ "$missed" = 0 ] && [ "$caught" -gt 0 ]

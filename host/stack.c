@@ -12,7 +12,8 @@
 #define _DEFAULT_SOURCE
 
 #include "chmurzeta.h"
-#include "makers.h"
+#include "make_code.h"
+#include "make_sheets.h"
 #include "second.h"
 
 #include <stdio.h>

@@ -53,6 +53,43 @@
  *   - chz_translate sets `*length` to 0 and writes no byte of `code`.
  *
  *
+ * WHAT MAY CHANGE
+ *
+ * CHZ_VERSION is 10000 times the first number of the version, plus 100 times
+ * the second, plus the third. Between two versions
+ *
+ *   - the third goes up where nothing that a caller can see has changed;
+ *   - the second where calls were added, with the numbers that they answer;
+ *   - the first where a call that was there takes other arguments, the same
+ *     bytes get another answer, or a number or its place has another meaning.
+ *     Until version 1.0.0 this raises the second.
+ *
+ * Numbers may be added in any but the third. So treat every number but 0 as a
+ * refusal, also one that isn't listed below.
+ *
+ * Firmware can say which headers it was written for:
+ *
+ *     #if CHZ_VERSION / 100 != 1
+ *     #error "written for chmurzeta 0.1"
+ *     #endif
+ *
+ *
+ * HOW IT IS USED
+ *
+ * In production, from a sheet that was accepted in the workshop or is
+ * accepted at start-up:
+ *
+ *     1. chz_translate once, into a buffer of CHZ_CODE_MAX bytes.
+ *     2. chz_cold_run once, for the record to begin with.
+ *     3. chz_run in each turn of the scan task, with the record as the last
+ *        turn left it, the inputs read now, and the ms since the last turn.
+ *
+ * A refusal is a fault of the bytes or of the memory that holds them, and
+ * comes back at every turn: go to the safe state, and keep number and place
+ * for the log. chz_scan does the same work as chz_run straight from the
+ * sheet; it is the reference to compare with. host/example.c has both.
+ *
+ *
  * HOW TO LINK
  *
  * The calls are in librecorder.a, a static library for x86-64 Linux with
@@ -60,10 +97,14 @@
  *
  *     cc -O2 -Iinclude firmware.c librecorder.a -o firmware
  *
+ * Where it was installed (make -C host install PREFIX=...):
+ *
+ *     cc -O2 firmware.c $(pkg-config --cflags --libs chmurzeta) -o firmware
+ *
  * On an Arm host, build for x86-64 and run under user emulation:
  *
- *     x86_64-linux-gnu-gcc -static -O2 -Iinclude firmware.c librecorder.a -o firmware
- *     qemu-x86_64 ./firmware
+ *     x86_64-linux-gnu-gcc -static -Iinclude firmware.c librecorder.a -o fw
+ *     qemu-x86_64 ./fw
  */
 
 #ifndef CHMURZETA_H
@@ -76,8 +117,11 @@
 extern "C" {
 #endif
 
+#define CHZ_VERSION 100 /* 0.1.0 */
+
 /*
- * The numbers answered, and what `*place` is for each.
+ * The numbers answered, and what `*place` is for each. docs/REFERENCE.md has
+ * an example of each, and what to do about it. Numbers may be added.
  *
  * Bits of a sheet are counted from 0, which is the top bit of byte 0.
  * Transitions, states and words are counted from 0 as they stand.
@@ -87,31 +131,61 @@ extern "C" {
  * within a number the lowest place. Then come 14 (chz_translate) or 18
  * (chz_scan). Code is judged 15, 16, 17 in that order, lowest place first.
  */
-#define CHZ_OK 0u         /* accepted; place 0 */
-#define CHZ_SHORT 1u      /* a field isn't wholly there; place: its first bit */
-#define CHZ_ONE_STATE 2u  /* the states field is 0; place 0 */
-#define CHZ_STATE_NO 3u   /* a transition names a state that the sheet hasn't; place: first bit of that field */
-#define CHZ_INPUT_NO 4u   /* a condition names an input that the sheet hasn't; place: first bit of the number */
-#define CHZ_BIG 5u        /* a condition's 32nd node, or a node at depth 9; place: first bit of its tag */
-#define CHZ_TAIL 6u       /* a spare bit is 1, or a further byte follows; place: first bit after the last condition */
-#define CHZ_LOOP 7u       /* source equals destination; place: the transition */
-#define CHZ_PAIR 8u       /* an earlier transition has the same source and destination; place: the later transition */
-#define CHZ_RANK 9u       /* an earlier transition has the same source and priority; place: the later transition */
-#define CHZ_NO_HOME 10u   /* a state other than 0 has no transition to 0; place: the state */
-#define CHZ_HOME_FORM 11u /* a transition to 0 lacks priority 0, wait 0 or the condition NOT input 0; place: the transition */
-#define CHZ_GATE 12u      /* a transition from 0: its condition is neither input 0 nor input 0 AND more; place: the transition */
-#define CHZ_ACTIVITY 13u  /* output 0 is false in state 0 or true in another; place: the state */
-#define CHZ_ROOM 14u      /* the code needs more bytes than the buffer has; place: the bytes needed */
-#define CHZ_CODE_END 15u  /* code is empty, over CHZ_CODE_LIMIT, not whole words, or the code byte of its last word isn't 0; place 0 */
-#define CHZ_WORD 16u      /* a word is at fault; place: the word */
-#define CHZ_LANDING 17u   /* a parenthesis is open just before a jump's target; place: the word of the jump */
-#define CHZ_NO_STATE 18u  /* chz_scan was given a state that the sheet hasn't; place: the state given */
+
+/* Accepted. Place 0. */
+#define CHZ_OK 0u
+/* A field isn't wholly there. Place: its first bit. */
+#define CHZ_SHORT 1u
+/* The states field is 0. Place 0. */
+#define CHZ_ONE_STATE 2u
+/* A transition names a state that the sheet hasn't.
+   Place: first bit of that field. */
+#define CHZ_STATE_NO 3u
+/* A condition names an input that the sheet hasn't.
+   Place: first bit of the number. */
+#define CHZ_INPUT_NO 4u
+/* A condition's 32nd node, or a node at depth 9.
+   Place: first bit of its tag. */
+#define CHZ_BIG 5u
+/* A spare bit is 1, or a further byte follows.
+   Place: first bit after the last condition. */
+#define CHZ_TAIL 6u
+/* Source equals destination. Place: the transition. */
+#define CHZ_LOOP 7u
+/* An earlier transition has the same source and destination.
+   Place: the later transition. */
+#define CHZ_PAIR 8u
+/* An earlier transition has the same source and priority.
+   Place: the later transition. */
+#define CHZ_RANK 9u
+/* A state other than 0 has no transition to 0. Place: the state. */
+#define CHZ_NO_HOME 10u
+/* A transition to 0 lacks priority 0, wait 0 or the condition NOT input 0.
+   Place: the transition. */
+#define CHZ_HOME_FORM 11u
+/* A transition from 0 has a condition that is neither input 0 nor an AND
+   whose first operand is input 0. Place: the transition. */
+#define CHZ_GATE 12u
+/* Output 0 is false in state 0 or true in another. Place: the state. */
+#define CHZ_ACTIVITY 13u
+/* The code needs more bytes than the buffer has. Place: the bytes needed. */
+#define CHZ_ROOM 14u
+/* Code is empty, over CHZ_CODE_LIMIT, not whole words, or the code byte of
+   its last word isn't 0. Place 0. */
+#define CHZ_CODE_END 15u
+/* A word is at fault. Place: the word. */
+#define CHZ_WORD 16u
+/* A parenthesis is open just before a jump's target.
+   Place: the word of the jump. */
+#define CHZ_LANDING 17u
+/* chz_scan was given a state that the sheet hasn't. Place: the state given. */
+#define CHZ_NO_STATE 18u
 
 /* Sizes. A buffer of CHZ_CODE_MAX bytes has room for any sheet's code. */
-#define CHZ_SHEET_MAX 2537u      /* bytes: no accepted sheet is longer */
-#define CHZ_CODE_MAX 26028u      /* bytes: no translation is longer (6,507 words) */
-#define CHZ_CODE_LIMIT 32768u    /* bytes: no accepted code is longer (8,192 words) */
-#define CHZ_CLOCK_MAX 16777215u  /* ms: the clock is held here; also the largest wait */
+#define CHZ_SHEET_MAX 2537u     /* bytes: no accepted sheet is longer */
+#define CHZ_CODE_MAX 26028u     /* bytes: no translation is longer */
+#define CHZ_CODE_LIMIT 32768u   /* bytes: no accepted code is longer */
+#define CHZ_CLOCK_MAX 16777215u /* ms: the clock's hold, and the largest wait */
 
 /*
  * A record is what lasts from one scan to the next. You keep it, and hand it
@@ -133,7 +207,8 @@ extern "C" {
  * Needs:   `sheet_len` bytes at `sheet`.
  * Answers: 0, or 1 to 13.
  */
-uint32_t chz_check_sheet(const uint8_t *sheet, size_t sheet_len, uint32_t *place);
+uint32_t chz_check_sheet(const uint8_t *sheet, size_t sheet_len,
+                         uint32_t *place);
 
 /*
  * Judges code, whoever wrote it.
@@ -154,8 +229,8 @@ uint32_t chz_check_code(const uint8_t *code, size_t code_len, uint32_t *place);
  *          of `code` is written. For 14, `*place` is the room to come back
  *          with, so a first call with `code_len` 0 asks for the size.
  */
-uint32_t chz_translate(const uint8_t *sheet, size_t sheet_len, uint8_t *code, size_t code_len, uint32_t *length,
-                       uint32_t *place);
+uint32_t chz_translate(const uint8_t *sheet, size_t sheet_len, uint8_t *code,
+                       size_t code_len, uint32_t *length, uint32_t *place);
 
 /*
  * Gives the record to begin with, for chz_scan: state 0, the outputs of state
@@ -165,8 +240,8 @@ uint32_t chz_translate(const uint8_t *sheet, size_t sheet_len, uint8_t *code, si
  * Answers: 0, or 1 to 13. Where refused, the record is set to zeros. Zeros
  *          are not a cold record: output 0 is true in state 0.
  */
-uint32_t chz_cold_scan(const uint8_t *sheet, size_t sheet_len, uint8_t *state, uint16_t *outputs, uint32_t *clock,
-                       uint32_t *place);
+uint32_t chz_cold_scan(const uint8_t *sheet, size_t sheet_len, uint8_t *state,
+                       uint16_t *outputs, uint32_t *clock, uint32_t *place);
 
 /*
  * Gives the record to begin with, for chz_run: flag 0 alone, the outputs of
@@ -176,8 +251,8 @@ uint32_t chz_cold_scan(const uint8_t *sheet, size_t sheet_len, uint8_t *state, u
  * Needs:   `sheet_len` bytes at `sheet`. What the record holds is not read.
  * Answers: 0, or 1 to 13. Where refused, the record is set to zeros.
  */
-uint32_t chz_cold_run(const uint8_t *sheet, size_t sheet_len, uint32_t *flags, uint16_t *outputs, uint32_t *clock,
-                      uint32_t *place);
+uint32_t chz_cold_run(const uint8_t *sheet, size_t sheet_len, uint32_t *flags,
+                      uint16_t *outputs, uint32_t *clock, uint32_t *place);
 
 /*
  * One scan from the sheet. The clock moves forward by `elapsed`; then, of the
@@ -189,8 +264,9 @@ uint32_t chz_cold_run(const uint8_t *sheet, size_t sheet_len, uint32_t *flags, u
  * Needs:   `sheet_len` bytes at `sheet`; a record, any record.
  * Answers: 0, 1 to 13, or 18. Where refused, the record is left as it was.
  */
-uint32_t chz_scan(const uint8_t *sheet, size_t sheet_len, uint8_t *state, uint16_t *outputs, uint32_t *clock,
-                  uint16_t inputs, uint32_t elapsed, uint32_t *place);
+uint32_t chz_scan(const uint8_t *sheet, size_t sheet_len, uint8_t *state,
+                  uint16_t *outputs, uint32_t *clock, uint16_t inputs,
+                  uint32_t elapsed, uint32_t *place);
 
 /*
  * One scan from code. The clock moves forward by `elapsed`; then the code
@@ -200,8 +276,9 @@ uint32_t chz_scan(const uint8_t *sheet, size_t sheet_len, uint8_t *state, uint16
  *          with no flag or several.
  * Answers: 0, or 15 to 17. Where refused, the record is left as it was.
  */
-uint32_t chz_run(const uint8_t *code, size_t code_len, uint32_t *flags, uint16_t *outputs, uint32_t *clock,
-                 uint16_t inputs, uint32_t elapsed, uint32_t *place);
+uint32_t chz_run(const uint8_t *code, size_t code_len, uint32_t *flags,
+                 uint16_t *outputs, uint32_t *clock, uint16_t inputs,
+                 uint32_t elapsed, uint32_t *place);
 
 #ifdef __cplusplus
 }

@@ -5,3 +5,4 @@ pub mod FaultLaws
 pub mod PassedLaws
 pub mod TextLaws
 pub mod PlaceLaws
+pub mod SingleProof

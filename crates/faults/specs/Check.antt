@@ -1,4 +1,5 @@
 -- The check of code: "Code is judged 15, 16, 17 in that order, lowest place first."
+use mathlib.Core.Path.{_≡_}
 use mathlib.Core.Bool.{Bool, true, false, not, _&&_, _||_, cond}
 use mathlib.Core.List.{List, [], _∷_, map}
 use Prim.Native.Nat.{ℕ, zero, suc, pred, _-_, _%_}
@@ -111,3 +112,7 @@ checkCode s =
     let landing = refuseAt refuse.Landing (firstLanding is 0 is) Accepted in
     let word = refuseAt refuse.Word (firstFault (length ws) 0 0 ws) landing in
     cond (endFault s) (Refused refuse.CodeEnd) word
+
+-- THE CONTRACT of `check_code`: the verdict, with its number and place, on any byte string
+abbrev pub ChecksCode : List ℕ → Checked → Type 0
+ChecksCode code r = r ≡ checkCode code

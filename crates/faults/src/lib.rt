@@ -14,7 +14,7 @@ ghost use Rattle.answer.specs.declared.Refusal.the-variants.{Landing};
 ghost use Rattle.answer.specs.Lowest.{refuseAt};
 ghost use Rattle.bits.specs.Word.{getBit, putBit};
 ghost use Rattle.words.specs.Word.{known, decode, words, wordAt};
-ghost use Rattle.faults.specs.Check.{endFault, opens, faulty, unknown, firstFault, depthAt, landsOpen, firstLanding, checkCode};
+ghost use Rattle.faults.specs.Check.{endFault, opens, faulty, unknown, firstFault, depthAt, landsOpen, firstLanding, ChecksCode};
 ghost use Rattle.faults.specs.inside.Marks.{marked, noted, jumps, stepped, PassTells, AllMarked};
 
 // What follows a word: it is at fault; or it is a jump, and as many parentheses are open as before it; or so many are open.
@@ -261,7 +261,7 @@ fn landed(landing: Found) -> Checked
 
 // Whether code may be run: 15, then 16, then 17, each at its lowest place. The words are passed over again only if there is a 17.
 pub fn check_code(code: &[u8]) -> Checked
-    ensures { λ r. ⌜ r ≡ checkCode (now (code .entry)) ⌝ }
+    ensures { λ r. ⌜ ChecksCode (now (code .entry)) r ⌝ }
 {
     if end_fault(code) {
         return Checked::Refused(Refusal::CodeEnd);

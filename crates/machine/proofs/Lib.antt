@@ -2,3 +2,4 @@ pub mod StepLaws
 pub mod RunLaws
 pub mod TextLaws
 pub mod PlaceLaws
+pub mod SingleProof

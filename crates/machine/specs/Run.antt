@@ -1,4 +1,5 @@
 -- The runner: "The runner refuses faulty code, else brings the clock forward as above and starts at word 0."
+use mathlib.Core.Path.{_≡_}
 use mathlib.Core.List.{List, map}
 use Prim.Native.Nat.{ℕ}
 use Rattle.answer.specs.declared.Checked.{Checked}
@@ -30,3 +31,7 @@ ranBy (Refused why) s r x elapsed = ranWith (Refused why) r
 -- "A refused scan returns the record it was given"; x is the input word
 unfoldable pub runCode : List ℕ → Record → ℕ → ℕ → Ran
 runCode s r x elapsed = ranBy (checkCode s) s r x elapsed
+
+-- THE CONTRACT of `run`: the verdict and the record, for any code, record, input word and elapsed time
+abbrev pub Runs : List ℕ → Record → ℕ → ℕ → Ran → Type 0
+Runs code given x elapsed r = r ≡ runCode code given x elapsed

@@ -10,7 +10,7 @@ ghost use Rattle.bits.specs.Word.{putBit};
 ghost use Rattle.words.specs.Word.{known, decode, words};
 ghost use Rattle.faults.specs.Check.{checkCode};
 ghost use Rattle.machine.specs.Machine.{Frame, withClock, flagTo, outTo, exec};
-ghost use Rattle.machine.specs.Run.{recordWith, ranWith, machOf, recordOf, runCode};
+ghost use Rattle.machine.specs.Run.{recordWith, ranWith, machOf, recordOf, Runs};
 ghost use Rattle.machine.specs.inside.Midway.{midway, machIn, joinTop, enc, Executable, Executes};
 
 // What a scan is given and hands back: flag s has weight 2^s, output a has weight 2^a.
@@ -210,7 +210,7 @@ fn execute(code: &[u8], inputs: u16, given: Record) -> Record
 
 // One scan: refused code hands the record back as it was given.
 pub fn run(code: &[u8], given: Record, inputs: u16, elapsed: u32) -> Ran
-    ensures { λ r. ⌜ r ≡ runCode (now (code .entry)) given inputs elapsed ⌝ }
+    ensures { λ r. ⌜ Runs (now (code .entry)) given inputs elapsed r ⌝ }
 {
     let verdict = faults::check_code(code);
     match verdict {

@@ -15,23 +15,28 @@ use Rattle.scan.specs.declared.Scanned.{Scanned}
 use Rattle.scan.specs.Scan.{scanOf, scanSheet}
 use Rattle.machine.specs.Run.{runCode}
 use Rattle.translate.specs.declared.Cold.{Cold}
+use Rattle.translate.specs.Translation.{translate}
 use Rattle.translate.specs.Writing.{Written, codeOf, translateInto}
 use Rattle.same.specs.Same.{embed}
 use Rattle.promises.specs.Moves.{MovesAsPublished, OneMove}
 use Rattle.same.specs.Histories.{refAfter, runAfter}
 use Rattle.promises.specs.Demand3.{codeIn, Demand3}
+use Rattle.promises.specs.Order.{BlocksInOrder}
 use Rattle.promises.specs.Length.{wordsOf, LengthRule}
 use Rattle.promises.specs.Ignored.{InputsIgnored}
-use Rattle.promises.specs.Held.{HeldChangesNone}
+use Rattle.promises.specs.Hold.{HoldChangesNone}
 use Rattle.promises.specs.Worthless.{NoInventedRoom, OneRunner}
+use Rattle.translate.specs.declared.Translated.{Translated}
+use Rattle.answer.specs.Number.{numberOf, placeOf}
 use Rattle.same.proofs.AcceptedLaws.{scan-is, cold-scan-is, cold-run-is}
+use Rattle.same.proofs.OrderProof.{block-order}
 use Rattle.same.proofs.CheckProof.{check-code}
 use Rattle.moves.proofs.MovesProof.{moves-scan, moves-only}
 use Rattle.same.proofs.FollowsProof.{run-is, follows}
 use Rattle.promises.proofs.Demand3Proof.{with-room, code-in}
 use Rattle.promises.proofs.LengthProof.{bytes-are, fitted, at-most}
 use Rattle.promises.proofs.IgnoredProof.{scan-ignores, run-ignores}
-use Rattle.promises.proofs.RefusalsProof.{refusals}
+use Rattle.refusals.proofs.RefusalsProof.{refusals}
 
 -- DEMAND 3
 pub demand3 : Demand3 translateInto runCode
@@ -94,8 +99,8 @@ held-same wait time few = go (leb wait time) refl
     go true e = le-leb wait (min time 16777215) (omega (arith, leb-true wait time e))
     go false e = lt-leb wait (min time 16777215) (omega (arith, leb-false wait time e))
 
-pub held-changes-none : HeldChangesNone
-held-changes-none s acc =
+pub hold-changes-none : HoldChangesNone
+hold-changes-none s acc =
     let r = accepted-rules s acc in (
       r .0,
       r .1,
@@ -104,6 +109,12 @@ held-changes-none s acc =
           let few : transitionOf (r .0) i .wait ≤ 16777215 = omega (arith, r .3 .fields i l .wait) in
           (few, λ time. held-same (transitionOf (r .0) i .wait) time few),
     )
+
+pub blocks-in-order : BlocksInOrder
+unfolding translate
+blocks-in-order s acc =
+    let r = accepted-rules s acc in
+    (r .0, r .1, r .2, block-order (r .0) (r .3), refl)
 
 pub length-rule : LengthRule
 length-rule s acc =
@@ -118,7 +129,8 @@ length-rule s acc =
 
 pub no-invented-room : NoInventedRoom
 no-invented-room f is s buffer place e other =
-    let h = refusals .room s buffer place .0 (ap (λ (w : Written). w .answer .verdict) (sym (is s buffer)) ∙ e) in
+    let told : f s buffer .answer .verdict ≡ translateInto s buffer .answer .verdict = ap (λ (t : Translated). t .verdict) (is s buffer .answer) in
+    let h = refusals .room s buffer place .0 (ap numberOf (sym told) ∙ e .0, ap placeOf (sym told) ∙ e .1) in
     let r = accepted-rules s (h .3) in
     let same : h .0 ≡ r .0 = ok-is (sym (h .2) ∙ r .2) in
     other (r .0, r .1, r .2, h .5 ∙ ap (λ a. length (codeOf a)) same ∙ bytes-are (r .0) (r .3))

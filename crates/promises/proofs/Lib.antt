@@ -5,12 +5,5 @@ pub mod IgnoredProof
 pub mod TableProof
 pub mod SingleProof
 pub mod WorthlessProof
-pub mod LowestLaws
-pub mod JudgeProof
-pub mod WordFaultProof
-pub mod CodeFaultProof
-pub mod ReadProof
-pub mod ExactlyProof
-pub mod RefusalsProof
-pub mod LeftProof
 pub mod Closing
+pub mod Promises

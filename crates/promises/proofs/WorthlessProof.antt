@@ -33,6 +33,7 @@ use Rattle.same.specs.Histories.{Tick, Runner, refAfter, runAfter, sinceChange,
 use Rattle.promises.specs.Demand3.{Translator, codeIn, Demand3}
 use Rattle.promises.specs.Table.{twoContact, twoRows, twoArcs, twoSheet, brings, flag, state}
 use Rattle.promises.specs.Worthless.{WritesEnd, WritesNothing, HandsBack, RightAtFirst, Worthless}
+use Rattle.translate.proofs.SingleProof.{translates-is}
 use Rattle.same.proofs.AcceptedLaws.{accepted-refused}
 use Rattle.promises.proofs.TableProof.{two-read, two-accepted, two-checked, two-scan, cold-state, cold-flag, table}
 
@@ -188,13 +189,14 @@ worthless = record {
   code-refused = λ f is h. accepted-refused (is (codeOf twoSheet) ∙ two-checked) (h (codeOf twoSheet) .1);
   code-accepted = λ f is h. accepted-refused (h []) (is [] ∙ no-code);
   only-end = λ f is h.
-      let acc : f M room .answer .verdict ≡ Accepted = ap (λ (w : Written). w .answer .verdict) (is M room ∙ table .p11) in
-      let z : _≡_ {A = ℕ} 4 64 = sym (ap length (h M room acc)) ∙ ap (λ w. length (codeIn w)) (is M room) ∙ ap length m-code in
+      let acc : f M room .answer .verdict ≡ Accepted = ap (λ (w : Written). w .answer .verdict) (translates-is M room (f M room) (is M room) ∙ table .p11) in
+      let z : _≡_ {A = ℕ} 4 64 =
+      sym (ap length (h M room acc)) ∙ ap (λ w. length (codeIn w)) (translates-is M room (f M room) (is M room)) ∙ ap length m-code in
       omega arith;
   only-end-3 = never-moves;
   nothing = λ f is h.
       let z : _≡_ {A = ℕ} 255 1 =
-      ap (λ (b : List ℕ). getD b 0 0) (sym (h M room) ∙ ap (λ (w : Written). w .buffer) (is M room ∙ table .p11)) in
+      ap (λ (b : List ℕ). getD b 0 0) (sym (h M room) ∙ ap (λ (w : Written). w .buffer) (translates-is M room (f M room) (is M room) ∙ table .p11)) in
       omega arith;
   nothing-3 = no-code-left;
   hands-back = λ f d h. back f d h;

@@ -1,12 +1,11 @@
 pub mod Moves
+pub mod Order
 pub mod Length
 pub mod Demand3
 pub mod Ignored
 pub mod Table
 pub mod Worthless
 pub mod Single
-pub mod WordFaults
-pub mod Fields
-pub mod Refusals
-pub mod Left
-pub mod Held
+pub mod Hold
+pub mod Passes
+pub mod Promises

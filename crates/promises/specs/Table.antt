@@ -5,8 +5,6 @@ use mathlib.Core.Bool.{Bool, true, false}
 use mathlib.Core.List.{List, [], _∷_}
 use Prim.Native.Nat.{ℕ, _+_, _*_}
 use lib.ListN.{length, replicate}
-use Rattle.answer.specs.Number.{numberOf, placeOf}
-use Rattle.answer.specs.declared.Checked.{Checked}
 use Rattle.answer.specs.declared.Checked.the-variants.{Accepted}
 use Rattle.bits.specs.Read.{ok}
 use Rattle.condition.specs.Cond.{Cond, inp, neg, conj, disj}
@@ -22,6 +20,7 @@ use Rattle.words.specs.Worked.{bytes, code11}
 use Rattle.machine.specs.Run.{recordWith, runCode}
 use Rattle.translate.specs.Translation.{translate}
 use Rattle.translate.specs.Writing.{codeOf, translateInto, coldRun}
+use Rattle.refusals.specs.Refusals.{Numbered}
 use Rattle.same.specs.Histories.{Tick}
 
 -- "The two-contact sheet": its bytes
@@ -125,10 +124,6 @@ abbrev pub Gives : State → Record → Tick → State → Record → Type 0
 Gives q r t p u =
     (scanSheet twoContact q (t .word) (t .elapsed) ≡ record { verdict = Accepted; «record» = p })
     × (runCode (codeOf twoSheet) r (t .word) (t .elapsed) ≡ record { verdict = Accepted; «record» = u })
-
--- an answer has this number and this place
-abbrev pub Numbered : Checked → ℕ → ℕ → Type 0
-Numbered c number place = (numberOf c ≡ number) × (placeOf c ≡ place)
 
 pub record Table : Type 0 where
   -- P1 to P10 are its rows `p1` to `p10`: "P1: no bytes: 1 at 0. P2: 00: 2 at 0. P3: M is accepted. P4: M with last byte 81: 6 at 71. P5: M and a

@@ -1,34 +1,34 @@
 -- "Try these worthless programs against it": each program that the paper names, and a proof that it can't meet its contract, or the demand.
--- A contract is equality with the definition, for all inputs.
+-- A contract is the relation that the function cites, for all inputs.
 use mathlib.Core.Path.{_≡_}
 use mathlib.Core.List.{List, [], _∷_}
 use Prim.Native.Nat.{ℕ, _<_}
 use Rattle.answer.specs.declared.Refusal.{Refusal}
-use Rattle.answer.specs.declared.Refusal.the-variants.{Room}
 use Rattle.answer.specs.declared.Checked.{Checked}
 use Rattle.answer.specs.declared.Checked.the-variants.{Accepted, Refused}
 use Rattle.bits.specs.Read.{ok}
 use Rattle.reader.specs.Sheet.{Sheet}
 use Rattle.reader.specs.Reading.{readSheet}
-use Rattle.sheet.specs.Judging.{checkSheet}
+use Rattle.sheet.specs.Judging.{checkSheet, ChecksSheet}
 use Rattle.machine.specs.declared.Record.{Record}
 use Rattle.words.specs.Word.{END, toBytes}
-use Rattle.faults.specs.Check.{checkCode}
+use Rattle.faults.specs.Check.{ChecksCode}
 use Rattle.machine.specs.Run.{runCode}
-use Rattle.translate.specs.Writing.{codeOf, translateInto}
+use Rattle.translate.specs.Writing.{codeOf, translateInto, Translates}
 use Rattle.same.specs.Histories.{Tick, Runner, runAfter}
 use Rattle.promises.specs.Demand3.{Translator, codeIn, Demand3}
+use Rattle.refusals.specs.Refusals.{Numbered}
 use Rattle.promises.specs.Length.{LengthOf}
 
--- the contracts of the two checkers and of the translator
+-- programs that meet the contracts of the two checkers and of the translator, whatever they are given
 abbrev pub ChecksSheets : (List ℕ → Checked) → Type 0
-ChecksSheets f = (s : List ℕ) → f s ≡ checkSheet s
+ChecksSheets f = (s : List ℕ) → ChecksSheet s (f s)
 
-abbrev pub ChecksCode : (List ℕ → Checked) → Type 0
-ChecksCode f = (s : List ℕ) → f s ≡ checkCode s
+abbrev pub ChecksCodes : (List ℕ → Checked) → Type 0
+ChecksCodes f = (s : List ℕ) → ChecksCode s (f s)
 
-abbrev pub Translates : Translator → Type 0
-Translates f = (s buffer : List ℕ) → f s buffer ≡ translateInto s buffer
+abbrev pub TranslatesAll : Translator → Type 0
+TranslatesAll f = (s buffer : List ℕ) → Translates s buffer (f s buffer .answer) (f s buffer .buffer)
 
 -- checkers that answer the same to everything
 abbrev pub RefusesAll : (List ℕ → Checked) → Type 0
@@ -55,12 +55,12 @@ pub record Worthless : Type 0 where
   -- "A checker, of sheets or of code, that refuses everything or accepts everything: demand 2."
   pub sheets-refused : (f : List ℕ → Checked) → ChecksSheets f → RefusesAll f → ⊥
   pub sheets-accepted : (f : List ℕ → Checked) → ChecksSheets f → AcceptsAll f → ⊥
-  pub code-refused : (f : List ℕ → Checked) → ChecksCode f → RefusesAll f → ⊥
-  pub code-accepted : (f : List ℕ → Checked) → ChecksCode f → AcceptsAll f → ⊥
+  pub code-refused : (f : List ℕ → Checked) → ChecksCodes f → RefusesAll f → ⊥
+  pub code-accepted : (f : List ℕ → Checked) → ChecksCodes f → AcceptsAll f → ⊥
   -- "A translator that writes only END, or nothing: demands 2 and 3."
-  pub only-end : (f : Translator) → Translates f → WritesEnd f → ⊥
+  pub only-end : (f : Translator) → TranslatesAll f → WritesEnd f → ⊥
   pub only-end-3 : (f : Translator) → Demand3 f runCode → WritesEnd f → ⊥
-  pub nothing : (f : Translator) → Translates f → WritesNothing f → ⊥
+  pub nothing : (f : Translator) → TranslatesAll f → WritesNothing f → ⊥
   pub nothing-3 : (f : Translator) → Demand3 f runCode → WritesNothing f → ⊥
   -- "A runner that hands its record back: demand 3, by the first scan that adds time."
   pub hands-back : (f : Runner) → Demand3 translateInto f → HandsBack f → ⊥
@@ -70,7 +70,7 @@ pub record Worthless : Type 0 where
 -- "ROOM with a place invented: the length rule above, under demand 2": the place is the length by the rule, and no other number
 abbrev pub NoInventedRoom : Type 0
 NoInventedRoom =
-    (f : Translator) → Translates f → (s buffer : List ℕ) (place : ℕ) → f s buffer .answer .verdict ≡ Refused (Room place)
+    (f : Translator) → TranslatesAll f → (s buffer : List ℕ) (place : ℕ) → Numbered (f s buffer .answer .verdict) 14 place
     → (LengthOf s place → ⊥) → ⊥
 
 -- and every wrong runner: whatever meets demand 3 with the translator has, on any accepted sheet and after any scans, the record that `runCode` has

@@ -2,6 +2,7 @@
 -- and what stands behind each pointer at exit.
 use Prim.Native.Nat.{ℕ}
 use mathlib.Core.List.{List}
+use Rattle.answer.specs.Number.{numberOf, placeOf}
 use Rattle.sheet.specs.Judging.{checkSheet}
 use Rattle.scan.specs.declared.State.{State}
 use Rattle.scan.specs.Scan.{scanSheet, coldScan}

@@ -1,4 +1,5 @@
 pub mod EachLaws
+pub mod OrderProof
 pub mod RunLaws
 pub mod CheckLaws
 pub mod PiecesLaws

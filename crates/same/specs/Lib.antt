@@ -1,3 +1,4 @@
 pub mod Same
+pub mod Order
 pub mod Histories
 pub mod inside

@@ -4,3 +4,4 @@ pub mod BestLaws
 pub mod PickLaws
 pub mod ScanLaws
 pub mod PlaceLaws
+pub mod SingleProof

@@ -1,5 +1,6 @@
 -- "One scan", and the cold start, from the sheet.
 use Prim.Native.Nat.{ℕ}
+use mathlib.Core.Path.{_≡_}
 use mathlib.Core.Bool.{Bool, _&&_, cond}
 use mathlib.Core.List.{List, [], _∷_}
 use lib.Dec.{eqb, leb, ltb}
@@ -81,3 +82,10 @@ zeros = stateWith 0 0 0
 
 unfoldable pub coldScan : List ℕ → Scanned
 coldScan s = withSheet s (refused zeros) λ a. accepted (coldOf a)
+
+-- THE CONTRACTS of `scan` and `cold_scan`: the verdict and the record, for any byte string, record, input word and elapsed time
+abbrev pub Scans : List ℕ → State → ℕ → ℕ → Scanned → Type 0
+Scans s q word elapsed r = r ≡ scanSheet s q word elapsed
+
+abbrev pub ColdScans : List ℕ → Scanned → Type 0
+ColdScans s r = r ≡ coldScan s

@@ -13,7 +13,7 @@ ghost use Rattle.reader.specs.Sheet.{Transition, noTransition};
 ghost use Rattle.reader.specs.Packing.{lineAt};
 ghost use Rattle.reader.specs.Decoding.{Holds};
 ghost use Rattle.sheet.specs.Opening.{Opens};
-ghost use Rattle.scan.specs.Scan.{can, best, stateWith, scannedWith, scanSheet, coldScan};
+ghost use Rattle.scan.specs.Scan.{can, best, stateWith, scannedWith, scanSheet, Scans, ColdScans};
 ghost use Rattle.scan.specs.Picking.{Picks, tookOf, Inside, movedOf};
 
 // The reference's record: the active state, its outputs (output a has weight 2^a) and the clock.
@@ -155,7 +155,7 @@ fn scan_opened(
 
 // One scan of the reference, on any byte string, record, input word and elapsed time.
 pub fn scan(sheet: &[u8], record: State, inputs: u16, elapsed: u32) -> Scanned
-    ensures { λ r. ⌜ r ≡ scanSheet (now (sheet .entry)) «record» inputs elapsed ⌝ }
+    ensures { λ r. ⌜ Scans (now (sheet .entry)) «record» inputs elapsed r ⌝ }
 {
     let mut rows = [0u16; 32];
     let mut lines = [0u64; 128];
@@ -165,7 +165,7 @@ pub fn scan(sheet: &[u8], record: State, inputs: u16, elapsed: u32) -> Scanned
 
 // The reference's cold start, on any byte string.
 pub fn cold_scan(sheet: &[u8]) -> Scanned
-    ensures { λ r. ⌜ r ≡ coldScan (now (sheet .entry)) ⌝ }
+    ensures { λ r. ⌜ ColdScans (now (sheet .entry)) r ⌝ }
 {
     let mut rows = [0u16; 32];
     let mut lines = [0u64; 128];

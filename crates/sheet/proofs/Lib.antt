@@ -6,3 +6,4 @@ pub mod RowLaws
 pub mod CopyLaws
 pub mod WithLaws
 pub mod PlaceLaws
+pub mod SingleProof

@@ -1,5 +1,6 @@
 -- "Numbers 7 to 13 follow on a sheet read to its end, the lowest number first, and within it the lowest place."
 use Prim.Native.Nat.{ℕ}
+use mathlib.Core.Path.{_≡_}
 use mathlib.Core.Bool.{Bool, true, false, not, _&&_}
 use mathlib.Core.List.{List}
 use lib.ListN.{getD}
@@ -82,3 +83,7 @@ readOr (no why) refuse go = refuse why
 
 unfoldable pub withSheet : {B : Type 0} → List ℕ → (Refusal → B) → (Sheet → B) → B
 withSheet s refuse go = readOr (readSheet s) refuse go
+
+-- THE CONTRACT of `check_sheet`: the verdict, with its number and place, on any byte string
+abbrev pub ChecksSheet : List ℕ → Checked → Type 0
+ChecksSheet s r = r ≡ checkSheet s

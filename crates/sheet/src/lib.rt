@@ -12,7 +12,7 @@ ghost use lib.ListN.{length};
 ghost use Rattle.answer.specs.Lowest.{firstBelow};
 ghost use Rattle.reader.specs.Sheet.{Sheet};
 ghost use Rattle.reader.specs.Decoding.{Copy};
-ghost use Rattle.sheet.specs.Judging.{judge, checkSheet};
+ghost use Rattle.sheet.specs.Judging.{judge, ChecksSheet};
 ghost use Rattle.sheet.specs.Lines.{breaksLine, firstBreak, keyOf, Keys, firstAlike, Homes, lacksHomeLine, activityRow, judgeForms};
 ghost use Rattle.sheet.specs.Opening.{Opens};
 
@@ -233,7 +233,7 @@ pub fn open_sheet(sheet: &[u8], rows: &mut [u16; 32], lines: &mut [u64; 128]) ->
 
 // The verdict on any byte string.
 pub fn check_sheet(sheet: &[u8]) -> Checked
-    ensures { λ r. ⌜ r ≡ checkSheet (now (sheet .entry)) ⌝ }
+    ensures { λ r. ⌜ ChecksSheet (now (sheet .entry)) r ⌝ }
 {
     let mut rows = [0u16; 32];
     let mut lines = [0u64; 128];

@@ -10,3 +10,4 @@ pub mod OrderLaws
 pub mod WholeLaws
 pub mod OpenedLaws
 pub mod PlaceLaws
+pub mod SingleProof

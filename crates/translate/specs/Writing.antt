@@ -1,4 +1,5 @@
 -- What a translation answers and leaves in the buffer, and the runner's cold start.
+use mathlib.Core.Path.{_≡_}
 use mathlib.Core.Bool.{cond}
 use mathlib.Core.List.{List}
 use Prim.Native.Nat.{ℕ}
@@ -52,3 +53,11 @@ noRecord why = record { verdict = Refused why; «record» = recordWith 0 0 0 }
 
 unfoldable pub coldRun : List ℕ → Cold
 coldRun s = withSheet s noRecord λ a. record { verdict = Accepted; «record» = coldRecord a }
+
+-- THE CONTRACTS of `translate`, the answer and every byte of the buffer at exit, and of `cold_run`, the verdict and the record
+pub record Translates (s old : List ℕ) (r : Translated) (new : List ℕ) : Type 0 where
+  pub answer : r ≡ translateInto s old .answer
+  pub buffer : new ≡ translateInto s old .buffer
+
+abbrev pub ColdRuns : List ℕ → Cold → Type 0
+ColdRuns s r = r ≡ coldRun s

@@ -19,13 +19,13 @@ cast-length : tie.Need-cast-length
 cast-length c =
     let t = c .before .before .before .before .before .before .before .args in
     let e : c .before .before .before .translate .result .length ≡ translateInto (now (t .sheet)) (now (t .code)) .answer .length =
-    ap (λ (x : Translated). x .length) (c .before .before .before .translate .ensures .0) in
+    ap (λ (x : Translated). x .length) (c .before .before .before .translate .ensures .answer) in
     omega (arith, length-fits (now (t .sheet)) (now (t .code)))
 
 answered-requires : tie.Need-answered-requires
 answered-requires c κs =
     let t = c .before .before .before .before .before .before .before .before .args in
-    subst (λ (x : Translated). placeOf (x .verdict) ≤ farthest) (sym (c .before .before .before .before .translate .ensures .0)) (place-fits (now (t .sheet)) (now (t .code)))
+    subst (λ (x : Translated). placeOf (x .verdict) ≤ farthest) (sym (c .before .before .before .before .translate .ensures .answer)) (place-fits (now (t .sheet)) (now (t .code)))
 
 same-length : tie.Need-same-length
 same-length c = search needs
@@ -34,10 +34,10 @@ returns : tie.Need-returns
 returns c =
     let e = c .before .before .before .before .before .translate .ensures in
     record {
-      told = subst (λ (x : Translated). Told (x .verdict) (c .answered .result) (c .answered .last .1 .0)) (e .0) (c .answered .ensures);
+      told = subst (λ (x : Translated). Told (x .verdict) (c .answered .result) (c .answered .last .1 .0)) (e .answer) (c .answered .ensures);
       left = record {
-        length-is = ap (λ (x : Translated). x .length) (e .0);
-        code-is = e .1;
+        length-is = ap (λ (x : Translated). x .length) (e .answer);
+        code-is = e .buffer;
       };
     }
 

@@ -1,0 +1,9 @@
+pub mod NumberLaws
+pub mod LowestLaws
+pub mod JudgeProof
+pub mod WordFaultProof
+pub mod CodeFaultProof
+pub mod ReadProof
+pub mod ExactlyProof
+pub mod RefusalsProof
+pub mod LeftProof

@@ -1,0 +1,4 @@
+pub mod Fields
+pub mod WordFaults
+pub mod Refusals
+pub mod Left
