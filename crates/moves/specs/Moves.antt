@@ -6,7 +6,7 @@ use Prim.Native.Nat.{ℕ, _≤_, _<_}
 use Rattle.condition.specs.Cond.{eval}
 use Rattle.reader.specs.Sheet.{Transition, Sheet, count, transitionOf}
 use Rattle.scan.specs.declared.State.{State}
-use Rattle.scan.specs.Scan.{outputsOf}
+use Rattle.scan.specs.Scan.{outputsOf, stateWith}
 
 -- t is a transition of the sheet
 abbrev pub Of : Sheet → Transition → Type 0
@@ -27,7 +27,7 @@ pub data Moves (a : Sheet) (q : State) (word clock : ℕ) (p : State) : Type 0 w
   -- reset and restarted. Furthermore, the output variables are set to the values indicated by the new state."
   fires : (t : Transition) → CanFire a (q .state) word clock t
       → ((u : Transition) → CanFire a (q .state) word clock u → t .priority ≤ u .priority)
-      → p ≡ record { state = t .destination; outputs = outputsOf a (t .destination); clock = 0 } → Moves a q word clock p
+      → p ≡ stateWith (t .destination) (outputsOf a (t .destination)) 0 → Moves a q word clock p
   -- 3. "If there is no transition that can be fired, the automaton remains in the currently active state."
   stays : ((t : Transition) → CanFire a (q .state) word clock t → ⊥)
-      → p ≡ record { state = q .state; outputs = q .outputs; clock = clock } → Moves a q word clock p
+      → p ≡ stateWith (q .state) (q .outputs) clock → Moves a q word clock p

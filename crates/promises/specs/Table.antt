@@ -14,7 +14,7 @@ use Rattle.sheet.specs.Judging.{checkSheet}
 use Rattle.sheet.specs.Table as sheets
 use Rattle.sheet.specs.Table.{sheetM}
 use Rattle.scan.specs.declared.State.{State}
-use Rattle.scan.specs.Scan.{scanSheet, coldScan}
+use Rattle.scan.specs.Scan.{stateWith, scanSheet, coldScan}
 use Rattle.machine.specs.declared.Record.{Record}
 use Rattle.words.specs.Worked.{bytes, code11}
 use Rattle.machine.specs.Run.{recordWith, runCode}
@@ -114,7 +114,7 @@ runs code r (t ∷ ts) = let next = runCode code r (t .word) (t .elapsed) .«rec
 
 -- a state with its outputs and the clock; and the same with the state's flag
 abbrev pub state : ℕ → ℕ → ℕ → State
-state n outputs clock = record { state = n; outputs = outputs; clock = clock }
+state n outputs clock = stateWith n outputs clock
 
 abbrev pub flag : ℕ → ℕ → ℕ → Record
 flag word outputs clock = recordWith word outputs clock

@@ -8,10 +8,6 @@ use Rattle.scan.specs.declared.State.{State}
 use Rattle.machine.specs.declared.Record.{Record}
 use Rattle.translate.specs.Writing.{Written}
 
--- the record behind the pointers, for the reference
-abbrev pub stateOf : ℕ → ℕ → ℕ → State
-stateOf state outputs clock = record { state = state; outputs = outputs; clock = clock }
-
 -- the paper's number and place, 0 and 0 where accepted
 pub record Told (verdict : Checked) (r place : ℕ) : Type 0 where
   pub number : r ≡ numberOf verdict

@@ -1,10 +1,10 @@
 // The C boundary: each call answers with plain numbers, and settles what stands behind each pointer.
 use answer::Checked;
-use scan::State;
 ghost use Prim.Native.Nat.{_≤_};
 ghost use Rattle.answer.specs.Number.{placeOf, farthest};
+ghost use Rattle.scan.specs.Scan.{stateWith};
 ghost use Rattle.machine.specs.Run.{recordWith};
-ghost use Rattle.recorder.specs.Answer.{stateOf, Told};
+ghost use Rattle.recorder.specs.Answer.{Told};
 ghost use Rattle.recorder.specs.Calls.{ChzCheckSheet, ChzCheckCode, ChzTranslate, ChzColdScan, ChzColdRun, ChzScan, ChzRun};
 
 // The number, and the place behind its pointer: no place needs more than 32 bits.
@@ -99,13 +99,9 @@ pub extern "C" fn chz_scan(
     elapsed: u32,
     place: &mut u32,
 ) -> u32
-    ensures { λ r. ⌜ ChzScan (now (sheet .entry)) (stateOf (now (state .entry)) (now (outputs .entry)) (now (clock .entry))) inputs elapsed r (now (place .exit)) (now (state .exit)) (now (outputs .exit)) (now (clock .exit)) ⌝ }
+    ensures { λ r. ⌜ ChzScan (now (sheet .entry)) (stateWith (now (state .entry)) (now (outputs .entry)) (now (clock .entry))) inputs elapsed r (now (place .exit)) (now (state .exit)) (now (outputs .exit)) (now (clock .exit)) ⌝ }
 {
-    let given = State {
-        state: *state,
-        outputs: *outputs,
-        clock: *clock,
-    };
+    let given = scan::state_with(*state, *outputs, *clock);
     let scanned = scan::scan(sheet, given, inputs, elapsed);
     let moved = scanned.record;
     *state = moved.state;

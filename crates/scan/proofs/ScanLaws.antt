@@ -19,7 +19,7 @@ use Rattle.sheet.specs.declared.Opened.{Opened}
 use Rattle.sheet.proofs.WithLaws.{with-refused, with-accepted}
 use Rattle.format.specs.Fields.{WellFormed}
 use Rattle.format.proofs.Format.{read-formed}
-use Rattle.scan.specs.Scan.{Choice, none, some, can, best, outputsOf, after, scanOf, coldOf, accepted, refused, zeros, scanSheet, coldScan}
+use Rattle.scan.specs.Scan.{Choice, none, some, can, best, outputsOf, stateWith, after, scanOf, coldOf, accepted, refused, zeros, scanSheet, coldScan}
 use Rattle.scan.specs.Picking.{Picks, Inside, movedOf}
 use Rattle.scan.specs.declared.State.{State}
 use Rattle.scan.specs.declared.Pick.{Pick}
@@ -91,6 +91,6 @@ module _ (s : List ℕ) (o : Opened) (rows lines : List ℕ) (g : Good s o rows 
       (g .copy .line i (omega (arith, g .copy .transitions)))
 
   -- the record that the code starts with is the cold one
-  pub cold-is : coldScan s ≡ accepted (record { state = 0; outputs = getD rows 0 0; clock = 0 })
+  pub cold-is : coldScan s ≡ accepted (stateWith 0 (getD rows 0 0) 0)
   unfolding coldOf outputsOf
   cold-is = cold-accepted ∙ rw (g .copy .row 0 (omega (arith, formed .states .0))) refl

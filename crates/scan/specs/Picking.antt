@@ -6,7 +6,7 @@ use mathlib.Core.Bool.{cond}
 use mathlib.Core.Path.{_≡_}
 use lib.Dec.{leb}
 use Rattle.reader.specs.declared.Line.{Line}
-use Rattle.scan.specs.Scan.{Choice, none, some}
+use Rattle.scan.specs.Scan.{Choice, none, some, stateWith}
 use Rattle.scan.specs.declared.State.{State}
 use Rattle.scan.specs.declared.Pick.{Pick}
 use Rattle.scan.specs.declared.Pick.the-variants as pick
@@ -30,5 +30,5 @@ Inside (pick.Best p d) = d < 32
 
 -- the record after the pick
 abbrev pub movedOf : List ℕ → State → ℕ → Pick → State
-movedOf rows q clock pick.Nothing = record { state = q .state; outputs = q .outputs; clock = clock }
-movedOf rows q clock (pick.Best p d) = record { state = d; outputs = getD rows d 0; clock = 0 }
+movedOf rows q clock pick.Nothing = stateWith (q .state) (q .outputs) clock
+movedOf rows q clock (pick.Best p d) = stateWith d (getD rows d 0) 0

@@ -6,6 +6,7 @@ use mathlib.Core.List.{List, [], _∷_}
 use lib.Dec.{eqb, leb, ltb}
 use Rattle.answer.specs.declared.Refusal.{Refusal}
 use Rattle.answer.specs.declared.Refusal.the-variants.{NoState}
+use Rattle.answer.specs.declared.Checked.{Checked}
 use Rattle.answer.specs.declared.Checked.the-variants.{Accepted, Refused}
 use Rattle.bits.specs.Word.{wordOf}
 use Rattle.clock.specs.Onward.{onward}
@@ -39,10 +40,14 @@ best active word clock (t ∷ ts) =
 unfoldable pub outputsOf : Sheet → ℕ → ℕ
 outputsOf a s = wordOf (rowOf a s)
 
+-- the one builder of a record: the active state, its outputs and the clock
+abbrev pub stateWith : ℕ → ℕ → ℕ → State
+stateWith state outputs clock = record { state = state; outputs = outputs; clock = clock }
+
 -- "the state changes, the clock becomes 0, the outputs are the new state's row"; "If none can, only the clock has changed."
 unfoldable pub after : Sheet → State → ℕ → Choice → State
-after a q clock none = record { state = q .state; outputs = q .outputs; clock = clock }
-after a q clock (some t) = record { state = t .destination; outputs = outputsOf a (t .destination); clock = 0 }
+after a q clock none = stateWith (q .state) (q .outputs) clock
+after a q clock (some t) = stateWith (t .destination) (outputsOf a (t .destination)) 0
 
 -- "The clock first becomes the lesser of clock plus elapsed and 16,777,215."
 unfoldable pub scanOf : Sheet → State → ℕ → ℕ → State
@@ -51,14 +56,18 @@ scanOf a q word elapsed =
 
 -- "Cold start: state 0 active, its outputs, clock 0."
 unfoldable pub coldOf : Sheet → State
-coldOf a = record { state = 0; outputs = outputsOf a 0; clock = 0 }
+coldOf a = stateWith 0 (outputsOf a 0) 0
+
+-- a scan's answer
+abbrev pub scannedWith : Checked → State → Scanned
+scannedWith verdict q = record { verdict = verdict; «record» = q }
 
 abbrev pub accepted : State → Scanned
-accepted q = record { verdict = Accepted; «record» = q }
+accepted q = scannedWith Accepted q
 
 -- "A refused scan returns the record it was given"
 abbrev pub refused : State → Refusal → Scanned
-refused q why = record { verdict = Refused why; «record» = q }
+refused q why = scannedWith (Refused why) q
 
 -- 18 NO-STATE: "the reference scan is given a state n or above", at "the state"
 unfoldable pub scanSheet : List ℕ → State → ℕ → ℕ → Scanned
@@ -69,7 +78,7 @@ scanSheet s q word elapsed =
 
 -- "A cold start refused for its sheet returns a record of zeros."
 abbrev pub zeros : State
-zeros = record { state = 0; outputs = 0; clock = 0 }
+zeros = stateWith 0 0 0
 
 unfoldable pub coldScan : List ℕ → Scanned
 coldScan s = withSheet s (refused zeros) λ a. accepted (coldOf a)

@@ -13,7 +13,7 @@ ghost use Rattle.reader.specs.Sheet.{Transition, noTransition};
 ghost use Rattle.reader.specs.Packing.{lineAt};
 ghost use Rattle.reader.specs.Decoding.{Holds};
 ghost use Rattle.sheet.specs.Opening.{Opens};
-ghost use Rattle.scan.specs.Scan.{can, best, scanSheet, Scans, ColdScans};
+ghost use Rattle.scan.specs.Scan.{can, best, stateWith, scannedWith, scanSheet, Scans, ColdScans};
 ghost use Rattle.scan.specs.Picking.{Picks, tookOf, Inside, movedOf};
 
 // The reference's record: the active state, its outputs (output a has weight 2^a) and the clock.
@@ -27,6 +27,26 @@ pub struct State {
 pub struct Scanned {
     pub verdict: Checked,
     pub record: State,
+}
+
+// The one builder of a record, and of a scan's answer.
+pub fn state_with(state: u8, outputs: u16, clock: u32) -> State
+    ensures { λ r. ⌜ r ≡ stateWith state outputs clock ⌝ }
+{
+    State {
+        state: state,
+        outputs: outputs,
+        clock: clock,
+    }
+}
+
+fn scanned_with(verdict: Checked, record: State) -> Scanned
+    ensures { λ r. ⌜ r ≡ scannedWith verdict «record» ⌝ }
+{
+    Scanned {
+        verdict: verdict,
+        record: record,
+    }
 }
 
 // The best transition met so far, if one was met.
@@ -88,18 +108,10 @@ fn moved(rows: &[u16; 32], record: State, clock: u32, p: Pick) -> State
     ensures { λ r. ⌜ r ≡ movedOf (now (rows .entry)) «record» clock p ⌝ }
 {
     match p {
-        Pick::Nothing => State {
-            state: record.state,
-            outputs: record.outputs,
-            clock: clock,
-        },
+        Pick::Nothing => state_with(record.state, record.outputs, clock),
         Pick::Best(_, destination) => {
             let outputs = rows[destination as usize];
-            State {
-                state: destination,
-                outputs: outputs,
-                clock: 0,
-            }
+            state_with(destination, outputs, 0)
         }
     }
 }
@@ -119,18 +131,12 @@ fn scan_opened(
 {
     let verdict = o.verdict;
     match verdict {
-        Checked::Refused(why) => Scanned {
-            verdict: Checked::Refused(why),
-            record: record,
-        },
+        Checked::Refused(why) => scanned_with(Checked::Refused(why), record),
         Checked::Accepted => {
             let d = o.decoded;
             let active = record.state;
             if d.states <= active as u32 {
-                return Scanned {
-                    verdict: Checked::Refused(Refusal::NoState(active as usize)),
-                    record: record,
-                };
+                return scanned_with(Checked::Refused(Refusal::NoState(active as usize)), record);
             }
             let clock = clock::bring_forward(record.clock, elapsed);
             let p = choose(
@@ -142,10 +148,7 @@ fn scan_opened(
                 inputs as u32,
                 clock,
             );
-            Scanned {
-                verdict: Checked::Accepted,
-                record: moved(rows, record, clock, p),
-            }
+            scanned_with(Checked::Accepted, moved(rows, record, clock, p))
         }
     }
 }
@@ -169,23 +172,7 @@ pub fn cold_scan(sheet: &[u8]) -> Scanned
     let o = sheet::open_sheet(sheet, &mut rows, &mut lines);
     let verdict = o.verdict;
     match verdict {
-        Checked::Refused(why) => Scanned {
-            verdict: Checked::Refused(why),
-            record: State {
-                state: 0,
-                outputs: 0,
-                clock: 0,
-            },
-        },
-        Checked::Accepted => {
-            Scanned {
-                verdict: Checked::Accepted,
-                record: State {
-                    state: 0,
-                    outputs: rows[0],
-                    clock: 0,
-                },
-            }
-        }
+        Checked::Refused(why) => scanned_with(Checked::Refused(why), state_with(0, 0, 0)),
+        Checked::Accepted => scanned_with(Checked::Accepted, state_with(0, rows[0], 0)),
     }
 }
