@@ -206,11 +206,7 @@ fn run_reaches(
     after: u32,
 ) -> bool {
     let outputs: u16 = if from == 1 { 1 } else { 2 };
-    let given = Record {
-        flags: from,
-        outputs: outputs,
-        clock: clock,
-    };
+    let given = machine::record_with(from, outputs, clock);
     comes_to(machine::run(code, given, inputs, elapsed), flags, after)
 }
 

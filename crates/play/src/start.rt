@@ -79,19 +79,11 @@ pub fn cold(sheet: &[u8], source: u8) -> Play {
 }
 
 fn record_at(s: Start, outputs: u16) -> Record {
-    Record {
-        flags: flag_of(s.state),
-        outputs: outputs,
-        clock: s.clock,
-    }
+    machine::record_with(flag_of(s.state), outputs, s.clock)
 }
 
 fn state_at(s: Start, outputs: u16) -> State {
-    State {
-        state: s.state,
-        outputs: outputs,
-        clock: s.clock,
-    }
+    scan::state_with(s.state, outputs, s.clock)
 }
 
 // Both records in a state of the sheet, with its outputs.
