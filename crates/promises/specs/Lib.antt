@@ -6,3 +6,4 @@ pub mod Table
 pub mod Worthless
 pub mod Single
 pub mod Held
+pub mod Earlier
