@@ -48,19 +48,15 @@ fn verdict_agrees(fields: &[u8], verdict: Checked) -> bool {
 
 // The state's number of a record given, which has a byte.
 fn state_given(fields: &[u8]) -> State {
-    State {
-        state: (word(fields, 12) % 256) as u8,
-        outputs: half(fields, 20),
-        clock: word(fields, 16),
-    }
+    scan::state_with(
+        (word(fields, 12) % 256) as u8,
+        half(fields, 20),
+        word(fields, 16),
+    )
 }
 
 fn record_given(fields: &[u8]) -> Record {
-    Record {
-        flags: word(fields, 12),
-        outputs: half(fields, 20),
-        clock: word(fields, 16),
-    }
+    machine::record_with(word(fields, 12), half(fields, 20), word(fields, 16))
 }
 
 fn scan_agrees(fields: &[u8], s: Scanned) -> bool {

@@ -7,7 +7,6 @@ use machine::Ran;
 use machine::Record;
 use reader::How;
 use scan::Scanned;
-use scan::State;
 
 // P11: the code of M.
 const CODE_OF_M: [u8; 64] = [
@@ -165,11 +164,7 @@ fn scan_reaches(
     after: u32,
 ) -> bool {
     let outputs: u16 = if from == 0 { 1 } else { 2 };
-    let given = State {
-        state: from,
-        outputs: outputs,
-        clock: clock,
-    };
+    let given = scan::state_with(from, outputs, clock);
     reaches(scan::scan(sheet, given, inputs, elapsed), state, after)
 }
 
@@ -206,11 +201,7 @@ fn run_reaches(
     after: u32,
 ) -> bool {
     let outputs: u16 = if from == 1 { 1 } else { 2 };
-    let given = Record {
-        flags: from,
-        outputs: outputs,
-        clock: clock,
-    };
+    let given = machine::record_with(from, outputs, clock);
     comes_to(machine::run(code, given, inputs, elapsed), flags, after)
 }
 

@@ -174,13 +174,15 @@ pub fn two_contact() -> [u8; 165] {
     ]
 }
 
-pub fn introduce() {
-    io::write_all(
+pub fn introduce() -> bool {
+    if !files::write_all(
         1,
         b"The two-contact sheet, for SF_Equivalent. Inputs: Activate, A, B. Outputs: activity, Ready, EquivalentOut, Error.\n",
-    );
-    io::write_all(
+    ) {
+        return false;
+    }
+    files::write_all(
         1,
         b"States: 0 Idle, 1 Init, 2 Wait for A, 3 Wait for B, 4 Error 1, 5 Error 2, 6 From Active Wait, 7 Error 3, 8 Enabled.\n",
-    );
+    )
 }

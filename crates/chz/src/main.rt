@@ -1,12 +1,9 @@
 // The command line: a thin program over the proved library.
 mod commands;
 mod demo;
-mod files;
-mod play;
-mod status;
-mod text;
-mod trace;
-mod why;
+mod help;
+
+use options::Options;
 
 enum Command {
     Check,
@@ -17,6 +14,23 @@ enum Command {
     Version,
     Missing,
     Unknown,
+}
+
+fn is_help(word: &[u8]) -> bool {
+    if check::same(word, b"help") {
+        return true;
+    }
+    if check::same(word, b"--help") {
+        return true;
+    }
+    check::same(word, b"-h")
+}
+
+fn is_version(word: &[u8]) -> bool {
+    if check::same(word, b"version") {
+        return true;
+    }
+    check::same(word, b"--version")
 }
 
 fn command_of(word: &[u8]) -> Command {
@@ -32,10 +46,10 @@ fn command_of(word: &[u8]) -> Command {
     if check::same(word, b"demo") {
         return Command::Demo;
     }
-    if check::same(word, b"help") {
+    if is_help(word) {
         return Command::Help;
     }
-    if check::same(word, b"version") {
+    if is_version(word) {
         return Command::Version;
     }
     Command::Unknown
@@ -52,100 +66,105 @@ fn command_at(word: usize) -> Command {
     command_of(&text[..n])
 }
 
-// How many words follow the one given.
-fn words_after(word: usize) -> usize {
-    let all = os::arg_count();
-    if all <= word {
-        return 0;
+fn check_with(o: Options) -> u8 {
+    if (o.sheet != 0) | (o.state != 0) | (o.clock != 0) | (o.second != 0) {
+        return check_usage();
     }
-    all - word - 1
+    if (o.code != 0) & (o.first == 0) {
+        return commands::check_code_command(o.code);
+    }
+    if (o.code == 0) & (o.first != 0) {
+        return commands::check_command(o.first);
+    }
+    check_usage()
 }
 
-fn help(fd: i32) -> bool {
-    io::write_all(
-        fd,
-        b"chz checks, translates and runs sheets: Boolean state machines for safety PLCs\n\n",
-    );
-    io::write_all(
-        fd,
-        b"  chz check SHEET           is the sheet accepted? if not: the number, the place and what it means\n",
-    );
-    io::write_all(fd, b"  chz translate SHEET CODE  writes the sheet's code\n");
-    io::write_all(
-        fd,
-        b"  chz run SHEET TRACE       runs the code and the reference side by side from cold start, a line a scan\n",
-    );
-    io::write_all(
-        fd,
-        b"  chz demo                  the two-contact sheet and the scans P12, with no file needed\n",
-    );
-    io::write_all(fd, b"  chz help                  this page\n");
-    io::write_all(fd, b"  chz version               the version\n\n");
-    io::write_all(
-        fd,
-        b"A trace is text, a scan a line: the input bits, input 0 first, a blank and the elapsed ms, as '110 99'.\n",
-    );
-    io::write_all(
-        fd,
-        b"# starts a comment, blank lines are passed over, and the trace '-' is standard input.\n",
-    );
-    io::write_all(
-        fd,
-        b"Exit status: 0 accepted, 1 refused, 2 a fault of usage, of a file or of a line of the trace.\n",
+fn check_usage() -> u8 {
+    status::usage_fault(b"check takes one file: chz check SHEET, or chz check --code CODE")
+}
+
+fn is_plain(o: Options) -> bool {
+    (o.code == 0) & (o.sheet == 0) & (o.state == 0) & (o.clock == 0)
+}
+
+fn translate_with(o: Options) -> u8 {
+    if is_plain(o) & (o.second != 0) & (o.third == 0) {
+        return commands::translate_command(o.first, o.second);
+    }
+    status::usage_fault(b"translate takes two files: chz translate SHEET CODE")
+}
+
+// The trace alone, or the sheet and the trace.
+fn run_with(o: Options) -> u8 {
+    let named = (o.code != 0) | (o.sheet != 0);
+    if named & (o.first != 0) & (o.second == 0) {
+        return commands::run_command(o.sheet, o, o.first);
+    }
+    if !named & (o.second != 0) & (o.third == 0) {
+        return commands::run_command(o.first, o, o.second);
+    }
+    status::usage_fault(
+        b"run takes a sheet and a trace: chz run SHEET TRACE, or chz run --code CODE TRACE",
     )
 }
 
-// The help that was asked for.
-fn help_command() -> u8 {
-    if help(libc::STDOUT_FILENO) {
-        return status::ACCEPTED;
+fn demo_with(o: Options) -> u8 {
+    if is_plain(o) & (o.first == 0) {
+        return commands::demo_command();
     }
-    status::file_fault(b"standard output")
+    status::usage_fault(b"demo takes no file")
 }
 
-fn version() -> u8 {
-    let text = b"chz 0.1.0\n";
-    status::tell(text, 10, status::ACCEPTED)
+fn help_with(o: Options) -> u8 {
+    if is_plain(o) & (o.first == 0) {
+        return help::help_command();
+    }
+    status::usage_fault(b"help takes no file")
 }
 
-fn no_command() -> u8 {
-    help(libc::STDERR_FILENO);
-    status::FAILED
+fn version_with(o: Options) -> u8 {
+    if is_plain(o) & (o.first == 0) {
+        return help::version_command();
+    }
+    status::usage_fault(b"version takes no file")
 }
 
-// Runs the command at a word, whose files are the words after it.
-fn run_at(word: usize, first: usize, second: usize) -> u8 {
-    let given = words_after(word);
+// Runs a command whose words are these.
+fn run_command(command: Command, word: usize, o: Options) -> u8 {
+    if o.unknown != 0 {
+        return status::word_fault(b"there is no option", o.unknown);
+    }
+    if o.lacking != 0 {
+        return status::word_fault(b"a value is missing after", o.lacking);
+    }
+    match command {
+        Command::Check => check_with(o),
+        Command::Translate => translate_with(o),
+        Command::Run => run_with(o),
+        Command::Demo => demo_with(o),
+        Command::Help => help_with(o),
+        Command::Version => version_with(o),
+        Command::Missing => help::no_command(),
+        Command::Unknown => status::word_fault(b"there is no command", word),
+    }
+}
+
+// Runs the command at a word, whose options and files are the words from the next one on.
+fn run_at(word: usize, next: usize) -> u8 {
     let command = command_at(word);
     match command {
-        Command::Check => if given == 1 {
-            commands::check_command(first)
-        } else {
-            status::usage_fault(b"check takes one file: chz check SHEET")
-        },
-        Command::Translate => if given == 2 {
-            commands::translate_command(first, second)
-        } else {
-            status::usage_fault(b"translate takes two files: chz translate SHEET CODE")
-        },
-        Command::Run => if given == 2 {
-            commands::run_command(first, second)
-        } else {
-            status::usage_fault(b"run takes two files: chz run SHEET TRACE")
-        },
-        Command::Demo => if given == 0 {
-            commands::demo_command()
-        } else {
-            status::usage_fault(b"demo takes no file")
-        },
-        Command::Help => help_command(),
-        Command::Version => version(),
-        Command::Missing => no_command(),
-        Command::Unknown => status::usage_fault(b"there is no such command"),
+        Command::Missing => help::no_command(),
+        Command::Unknown => status::word_fault(b"there is no command", word),
+        Command::Check => run_command(command, word, options::options_from(next)),
+        Command::Translate => run_command(command, word, options::options_from(next)),
+        Command::Run => run_command(command, word, options::options_from(next)),
+        Command::Demo => run_command(command, word, options::options_from(next)),
+        Command::Help => run_command(command, word, options::options_from(next)),
+        Command::Version => run_command(command, word, options::options_from(next)),
     }
 }
 
-// Whether the launcher wants the status on descriptor 3: its first word is then --status.
+// Whether the launcher wants the status told on descriptor 3: its first word is then --status.
 fn is_launched() -> bool {
     let mut text = [0u8; 16];
     let n = os::arg(1, &mut text);
@@ -154,8 +173,8 @@ fn is_launched() -> bool {
 
 fn main() {
     if is_launched() {
-        status::report(run_at(2, 3, 4));
+        status::report(run_at(2, 3));
         return;
     }
-    run_at(1, 2, 3);
+    run_at(1, 2);
 }

@@ -20,13 +20,13 @@ use Rattle.scan.proofs.AllLaws.{All}
 use Rattle.machine.specs.declared.Record.{Record}
 use Rattle.words.specs.Word.{Word, END, LDS, LDI, NOT, ANDP, ORP, PAR, ANDT, R, S, RA, SA, JMPC, JMP, TRES}
 use Rattle.machine.specs.Machine.{Mach, Out, Frame, andF, orF, join, exec, flagTo, outTo, withClock, runScan}
-use Rattle.machine.specs.Run.{machOf, recordOf, runCode}
+use Rattle.machine.specs.Run.{machOf, recordOf, ranWith, runCode}
 use Rattle.translate.specs.Translation.{translate}
 use Rattle.translate.specs.Writing.{codeOf}
-use Rattle.words.proofs.WordLaws.{decode-map}
+use Rattle.machine.proofs.TextLaws.{runs}
 use Rattle.promises.specs.Ignored.{Agree}
 use Rattle.same.proofs.AcceptedLaws.{with-sheet}
-use Rattle.same.proofs.CheckProof.{each-code, fit, code-words, check-code}
+use Rattle.same.proofs.CheckProof.{each-code, fit, check-code}
 use Rattle.same.proofs.EachLaws.{Each, all-fields}
 
 module _ (k x y : ℕ) (agree : Agree k x y) where
@@ -115,9 +115,13 @@ module _ (a : Sheet) (rules : Rules a) (x y : ℕ) (agree : Agree (a .inputs) x 
   unfolding scanSheet
   scan-ignores s end read acc q = with-sheet s a end read acc (refused q) _ ∙ rw (scanOf-same q) (sym (with-sheet s a end read acc (refused q) _))
 
+  run-by : (r : Record) (z : ℕ) → runCode (codeOf a) r z e ≡ ranWith Accepted (recordOf (runScan (translate a) (machOf r) z e .mach))
+  unfolding codeOf
+  run-by r z = runs (translate a) (fit a rules) (check-code a rules) r z e
+
   pub run-ignores : (r : Record) → runCode (codeOf a) r x e ≡ runCode (codeOf a) r y e
-  unfolding runCode runScan
+  unfolding runScan
   run-ignores r =
-      rw (check-code a rules, code-words a rules, decode-map (translate a) (fit a rules))
-      (ap (λ (o : Out). record { verdict = Accepted; «record» = recordOf (o .mach) })
-      (exec-same (a .inputs) x y agree (translate a) reads 0 0 (withClock (machOf r) (onward (r .clock) e)) false [] 0))
+      let from = withClock (machOf r) (onward (r .clock) e) in
+      let same = exec-same (a .inputs) x y agree (translate a) reads 0 0 from false [] 0 in
+      run-by r x ∙ ap (λ (o : Out). ranWith Accepted (recordOf (o .mach))) same ∙ sym (run-by r y)

@@ -2,8 +2,10 @@ pub mod RoomLaws
 pub mod LengthProof
 pub mod Demand3Proof
 pub mod IgnoredProof
+pub mod Breaking
 pub mod TableProof
 pub mod SingleProof
 pub mod WorthlessProof
+pub mod EarlierProof
 pub mod Closing
 pub mod Promises

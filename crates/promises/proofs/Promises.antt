@@ -11,6 +11,7 @@ use Rattle.promises.specs.Promises.{Promises}
 use Rattle.promises.proofs.SingleProof.{single-outcome}
 use Rattle.promises.proofs.TableProof.{table}
 use Rattle.promises.proofs.WorthlessProof.{worthless}
+use Rattle.promises.proofs.EarlierProof.{earlier}
 use Rattle.promises.proofs.Closing.{
   demand3,
   moves-as-published,
@@ -50,4 +51,5 @@ promises = record {
   demand3 = demand3;
   one-runner = one-runner;
   worthless = worthless;
+  earlier = earlier;
 }

@@ -44,8 +44,10 @@ use Rattle.translate.specs.Translation.{
 }
 use Rattle.translate.specs.Writing.{codeOf, translateInto, coldRecord, coldRun}
 use Rattle.same.specs.Histories.{Tick}
+use Rattle.promises.specs.Length.{wordsOf}
 use Rattle.promises.specs.Table.{twoContact, twoRows, twoArcs, twoSheet, scans, runs, state, flag, Table}
 use Rattle.same.proofs.AcceptedLaws.{scan-is, cold-scan-is, cold-run-is}
+use Rattle.promises.proofs.Breaking.{run-of}
 
 pub two-read : readSheet twoContact ≡ ok twoSheet 1319
 unfolding readSheet readHeader rowAt upto transitionAt endsAt twoContact twoSheet twoRows twoArcs condAt operandsAt inputAt fieldAt numAt bitAt getBit
@@ -55,6 +57,10 @@ two-read = refl
 pub two-accepted : checkSheet twoContact ≡ Accepted
 unfolding checkSheet judge clashes lacksHome anyBelow firstBelow twoSheet twoRows twoArcs isOn isOff isGated
 two-accepted = rw two-read refl
+
+pub two-words : wordsOf twoSheet ≡ 271
+unfolding wordsOf wordCount twoSheet twoRows twoArcs
+two-words = refl
 
 two-bytes : length twoContact ≡ 165
 unfolding twoContact
@@ -77,11 +83,11 @@ unfolding codeNo operand wordNo known decode bytesOf toBytes words codeOf transl
 two-decoded = refl
 
 -- a scan of the code, the code being checked
-two-run : (r : Record) (word elapsed : ℕ)
+pub two-run : (r : Record) (word elapsed : ℕ)
     → runCode (codeOf twoSheet) r word elapsed
     ≡ record { verdict = Accepted; «record» = recordOf (runScan (translate twoSheet) (machOf r) word elapsed .mach) }
-unfolding runCode
-two-run r word elapsed = rw (two-checked, two-decoded) refl
+unfolding codeOf
+two-run = run-of (translate twoSheet) two-checked two-decoded
 
 -- scans one after the other
 scan-step : (q p : State) (t : Tick) (ts : List Tick) (rest : List State) → q .state < 9 → scanOf twoSheet q (t .word) (t .elapsed) ≡ p

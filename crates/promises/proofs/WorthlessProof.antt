@@ -12,7 +12,6 @@ use Rattle.answer.specs.Lowest.{anyBelow, firstBelow}
 use Rattle.bits.specs.Field.{fieldAt, numAt, bitAt}
 use Rattle.bits.specs.Read.{ok, upto}
 use Rattle.bits.specs.Word.{getBit, wordOf, bitsOf}
-use Rattle.bits.proofs.ReadLaws.{ok-is}
 use Rattle.condition.specs.Cond.{eval, isOn, isOff, isGated, wordCount}
 use Rattle.condition.specs.Reading.{condAt, operandsAt, inputAt}
 use Rattle.reader.specs.Sheet.{Sheet}
@@ -35,7 +34,8 @@ use Rattle.promises.specs.Table.{twoContact, twoRows, twoArcs, twoSheet,
 use Rattle.promises.specs.Worthless.{WritesEnd, WritesNothing, HandsBack, RightAtFirst, Worthless}
 use Rattle.translate.proofs.SingleProof.{translates-is}
 use Rattle.same.proofs.AcceptedLaws.{accepted-refused}
-use Rattle.promises.proofs.TableProof.{two-read, two-accepted, two-checked, two-scan, cold-state, cold-flag, table}
+use Rattle.promises.proofs.Breaking.{demanded}
+use Rattle.promises.proofs.TableProof.{two-read, two-accepted, two-words, two-checked, two-scan, cold-state, cold-flag, table}
 
 -- the checkers
 no-bytes : checkSheet [] ≡ Refused (Short 0)
@@ -62,24 +62,12 @@ m-read : (a : Sheet) × (readSheet M ≡ ok a 71) × (wordsOf a ≡ 16)
 unfolding sheetM wordsOf wordCount readSheet readHeader rowAt upto transitionAt endsAt condAt operandsAt inputAt fieldAt numAt bitAt getBit bitsOf
 m-read = (_, refl, refl)
 
-m-fits : (a : Sheet) (end : ℕ) → readSheet M ≡ ok a end → 4 * wordsOf a ≤ 64
-m-fits a end e =
-    let same : m-read .0 ≡ a = ok-is (sym (m-read .1) ∙ e) in
-    omega (arith, ap wordsOf same, m-read .2)
+m-fits : 4 * wordsOf (m-read .0) ≤ length room
+m-fits = omega (arith, m-read .2)
 
 m-code : codeIn (translateInto M room) ≡ bytes code11
 unfolding bytes code11 bytesOf
 m-code = ap codeIn (table .p11)
-
--- the two-contact sheet's room
-two-words : wordsOf twoSheet ≡ 271
-unfolding wordsOf wordCount twoSheet twoRows twoArcs
-two-words = refl
-
-two-fits : (a : Sheet) (end : ℕ) → readSheet twoContact ≡ ok a end → 4 * wordsOf a ≤ 1084
-two-fits a end e =
-    let same : twoSheet ≡ a = ok-is (sym two-read ∙ e) in
-    omega (arith, ap wordsOf same, two-words)
 
 -- the first scan of P12, by the reference
 two-moves : refAfter twoContact (brings 1 0 0 10 ∷ []) .state ≡ 1
@@ -122,21 +110,19 @@ ff-refused n m h = accepted-refused {why = CodeEnd} h (rw (all-ff n m .1, ff-end
 -- demand 3 fails with a translator that leaves one of these
 never-moves : (f : Translator) → Demand3 f runCode → WritesEnd f → ⊥
 never-moves f d h =
-    let two = d twoContact two-accepted in
     let room : List ℕ = replicate 1084 0 in
-    let at = two .5 room (two-fits (two .0) (two .1) (two .2)) in
+    let at = demanded twoContact twoSheet 1319 two-read two-accepted f runCode d room (omega (arith, two-words)) in
     let flag : runAfter runCode twoContact (codeIn (f twoContact room)) (brings 1 0 0 10 ∷ []) .flags ≡ 2 =
-    at .2 (brings 1 0 0 10 ∷ []) .flag ∙ ap (λ n. 2 ^ n) two-moves in
+    at .3 (brings 1 0 0 10 ∷ []) .flag ∙ ap (λ n. 2 ^ n) two-moves in
     let z : _≡_ {A = ℕ} 1 2 =
     sym (idle-code (toBytes (END ∷ [])) end-idle)
-    ∙ ap (λ c. runAfter runCode twoContact c (brings 1 0 0 10 ∷ []) .flags) (sym (h twoContact room (at .0))) ∙ flag in
+    ∙ ap (λ c. runAfter runCode twoContact c (brings 1 0 0 10 ∷ []) .flags) (sym (h twoContact room (at .1))) ∙ flag in
     omega arith
 
 no-code-left : (f : Translator) → Demand3 f runCode → WritesNothing f → ⊥
 no-code-left f d h =
-    let m = d M m-accepted in
-    let at = m .5 room (m-fits (m .0) (m .1) (m .2)) in
-    ff-refused (f M room .answer .length) 64 (rw (h M room) at (at .1))
+    let at = demanded M (m-read .0) 71 (m-read .1) m-accepted f runCode d room m-fits in
+    ff-refused (f M room .answer .length) 64 (rw (h M room) at (at .2))
 
 -- the runner: M from cold, 10 ms with activation on
 tick : Tick
@@ -158,7 +144,9 @@ module _ (f : Runner) (d : Demand3 translateInto f) where
 
   follows : (ticks : List Tick) → (a : Sheet) × Follows f M a code ticks
   unfolding code
-  follows ticks = let m = d M m-accepted in (m .0, m .5 room (m-fits (m .0) (m .1) (m .2)) .2 ticks)
+  follows ticks =
+      let at = demanded M (m-read .0) 71 (m-read .1) m-accepted translateInto f d room m-fits in
+      (at .0, at .3 ticks)
 
   clock-10 : runAfter f M code (tick ∷ []) .clock ≡ 10
   unfolding code

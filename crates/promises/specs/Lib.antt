@@ -5,6 +5,7 @@ pub mod Demand3
 pub mod Ignored
 pub mod Table
 pub mod Worthless
+pub mod Earlier
 pub mod Single
 pub mod Hold
 pub mod Passes

@@ -15,6 +15,7 @@ use Rattle.promises.specs.Hold.{HoldChangesNone}
 use Rattle.promises.specs.Table.{Table}
 use Rattle.promises.specs.Passes.{TranslationPasses, OneScan}
 use Rattle.promises.specs.Demand3.{Demand3}
+use Rattle.promises.specs.Earlier.{Earlier}
 use Rattle.promises.specs.Worthless.{Worthless, NoInventedRoom, OneRunner}
 
 pub record Promises : Type 0 where
@@ -57,3 +58,5 @@ pub record Promises : Type 0 where
   -- whatever runner meets it does as ours does; and no worthless program meets its contract or the demand
   pub one-runner : OneRunner
   pub worthless : Worthless
+  -- the firm's three earlier versions do not meet it, nor does any mistake of the list "Easy to get wrong"
+  pub earlier : Earlier

@@ -1,7 +1,7 @@
 -- The translation passes the check of code. Assumes nothing.
 use mathlib.Core.Path.{_≡_, refl, sym, ap, _∙_}
 use mathlib.Core.Bool.{Bool, true, false}
-use mathlib.Core.List.{List, [], _∷_, _++_, append-assoc, map}
+use mathlib.Core.List.{List, [], _∷_, _++_, append-assoc}
 use Prim.Native.Nat.{ℕ, zero, suc, _+_, _*_, _≤_, _<_}
 use native.Mathlib.Omega.{arith}
 use native.Mathlib.Nat.{add-zero, zero-add}
@@ -13,8 +13,8 @@ use Rattle.reader.specs.Sheet.{Transition, Sheet}
 use Rattle.format.specs.Fields.{Fields}
 use Rattle.rules.specs.Rules.{Rules}
 use Rattle.scan.proofs.AllLaws.{All}
-use Rattle.words.specs.Word.{Word, END, JMP, ANDT, TRES, operand, wordNo, words}
-use Rattle.words.proofs.WordLaws.{Fit, words-to}
+use Rattle.words.specs.Word.{Word, END, JMP, ANDT, TRES, operand}
+use Rattle.words.proofs.WordLaws.{Fit}
 use Rattle.faults.specs.Check.{opens, faulty, depthAt, landsOpen, checkCode}
 use Rattle.faults.proofs.TextLaws.{firstAmong, passes}
 use Rattle.translate.specs.Translation.{waitCode, waitCount, sort, blocksLen, stateAt, endAt, translate}
@@ -192,10 +192,6 @@ module _ (a : Sheet) (rules : Rules a) where
     zeroed = omega arith;
     end = omega arith;
   }))
-
-  pub code-words : words (codeOf a) ≡ map wordNo (translate a)
-  unfolding codeOf
-  code-words = words-to (translate a)
 
   -- all but END
   front : List Word

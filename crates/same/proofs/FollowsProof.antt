@@ -22,16 +22,16 @@ use Rattle.scan.specs.Scan.{scanOf, coldOf}
 use Rattle.machine.specs.declared.Record.{Record}
 use Rattle.machine.specs.declared.Ran.{Ran}
 use Rattle.machine.specs.Machine.{Out}
-use Rattle.machine.specs.Run.{recordOf, runCode}
+use Rattle.machine.specs.Run.{recordOf, ranWith, runCode}
 use Rattle.translate.specs.declared.Cold.{Cold}
 use Rattle.translate.specs.Translation.{translate}
 use Rattle.translate.specs.Writing.{codeOf, coldRecord}
-use Rattle.words.proofs.WordLaws.{decode-map}
+use Rattle.machine.proofs.TextLaws.{runs}
 use Rattle.same.specs.Same.{embed, Fits}
 use Rattle.moves.specs.Moves.{Moves, fires, stays}
 use Rattle.same.specs.Histories.{Tick, refAfter, runAfter, sinceChange, Follows}
 use Rattle.same.proofs.AcceptedLaws.{scan-is, cold-scan-is, cold-run-is}
-use Rattle.same.proofs.CheckProof.{fit, code-words, check-code}
+use Rattle.same.proofs.CheckProof.{fit, check-code}
 use Rattle.moves.proofs.HomeProof.{off-home}
 use Rattle.moves.proofs.MovesProof.{moves-scan}
 use Rattle.same.proofs.SameProof.{Shows, shows-fits, scan-same, scan-shows}
@@ -39,10 +39,10 @@ use Rattle.same.proofs.SameProof.{Shows, shows-fits, scan-same, scan-sh
 module _ (a : Sheet) (rules : Rules a) where
   -- a scan of the code's bytes
   pub run-is : (q : State) → Fits a q → (x e : ℕ) → runCode (codeOf a) (embed q) x e ≡ record { verdict = Accepted; «record» = embed (scanOf a q x e) }
-  unfolding runCode
+  unfolding codeOf
   run-is q g x e =
-      rw (check-code a rules, code-words a rules, decode-map (translate a) (fit a rules))
-      (ap (λ (o : Out). record { verdict = Accepted; «record» = recordOf (o .mach) }) (scan-same a rules q g x e))
+      runs (translate a) (fit a rules) (check-code a rules) (embed q) x e
+      ∙ ap (λ (o : Out). ranWith Accepted (recordOf (o .mach))) (scan-same a rules q g x e)
 
   -- a scan changes the state or adds to the clock
   clock-step : (q p : State) (x e since : ℕ) → q .clock ≡ min since 16777215 → Moves a q x (onward (q .clock) e) p
