@@ -7,6 +7,10 @@ use lib.Dec.{leb}
 use Rattle.bits.specs.declared.Got.{Got}
 use Rattle.bits.specs.declared.Got.the-variants.{Field, Short}
 
+-- Below this bit a field may begin: far behind the end of any sheet, and no sum of positions wraps.
+abbrev pub reach : ℕ
+reach = 1000000
+
 -- bit i of the bytes s
 unfoldable pub bitAt : List ℕ → ℕ → ℕ
 bitAt s i = getD s (i / 8) 0 / 2 ^ (7 - i % 8) % 2

@@ -3,7 +3,7 @@ ghost use mathlib.Core.Path.{_≡_};
 ghost use mathlib.Core.Bool.{true, false};
 ghost use Prim.Native.Nat.{_+_, _*_, _-_, _/_, _%_, _^_, _≤_, _<_};
 ghost use lib.ListN.{length};
-ghost use Rattle.bits.specs.Field.{numAt, fieldAt};
+ghost use Rattle.bits.specs.Field.{reach, numAt, fieldAt};
 ghost use Rattle.bits.specs.Word.{getBit, putBit};
 
 // The next bit to be read.
@@ -20,7 +20,7 @@ pub enum Got {
 // The bytes before `stop` that the field at `at` is in. As many of the last ones are taken as a field of this width fills at least,
 // and its first byte, which may be one of them, is put above them: what stands above a field is cut off.
 fn gathered(s: &[u8], at: usize, width: usize, stop: usize) -> u64
-    requires { ⌜ (at < 1000000) × (1 ≤ width) × (width ≤ 24) × (stop ≡ (at + width + 7) / 8) × (stop ≤ length (now s)) ⌝ }
+    requires { ⌜ (at < reach) × (1 ≤ width) × (width ≤ 24) × (stop ≡ (at + width + 7) / 8) × (stop ≤ length (now s)) ⌝ }
     ensures { λ r. ⌜ r / 2 ^ (stop * 8 - (at + width)) % 2 ^ width ≡ numAt (now (s .entry)) at width ⌝ }
 {
     let first = s[at / 8] as u64;
@@ -38,7 +38,7 @@ fn gathered(s: &[u8], at: usize, width: usize, stop: usize) -> u64
 
 // The number that the `width` bits from `at` on are, where they are there: cut out of the bytes that they are in.
 pub fn number(s: &[u8], at: usize, width: usize) -> u32
-    requires { ⌜ (at < 1000000) × (1 ≤ width) × (width ≤ 24) × (at + width ≤ length (now s) * 8) ⌝ }
+    requires { ⌜ (at < reach) × (1 ≤ width) × (width ≤ 24) × (at + width ≤ length (now s) * 8) ⌝ }
     ensures { λ r. ⌜ r ≡ numAt (now (s .entry)) at width ⌝ }
 {
     let end = at + width;
@@ -51,7 +51,7 @@ pub fn number(s: &[u8], at: usize, width: usize) -> u32
 
 // The field of `width` bits from the cursor on.
 pub fn field(s: &[u8], c: Cursor, width: usize) -> Got
-    requires { ⌜ (c .at < 1000000) × (1 ≤ width) × (width ≤ 24) ⌝ }
+    requires { ⌜ (c .at < reach) × (1 ≤ width) × (width ≤ 24) ⌝ }
     ensures { λ r. ⌜ r ≡ fieldAt (now (s .entry)) (c .at) width ⌝ }
 {
     let at = c.at;

@@ -15,21 +15,8 @@ use Rattle.bits.specs.declared.Cursor.{Cursor}
 use Rattle.bits.specs.declared.Got.the-variants as got
 use Rattle.bits.proofs.ReadLaws.{ok-next, ok-is, ok-no, bind-ok, guard-ok, field-read}
 use Rattle.condition.specs.Cond.{Cond, inp, neg, eval, wordCount}
-use Rattle.condition.specs.Reading.{
-  Counted,
-  counted,
-  inputAt,
-  joined,
-  behind,
-  operandsAt,
-  nodeAt,
-  condAt,
-  pickForm,
-  formOf,
-  factsOf,
-  forget,
-}
-use Rattle.condition.specs.Joining.{negFacts, pickValue, joinFacts}
+use Rattle.condition.specs.Reading.{Counted, counted, inputAt, joined, behind, operandsAt, nodeAt, condAt}
+use Rattle.condition.specs.inside.Facts.{pickForm, formOf, factsOf, forget, negFacts, pickValue, joinFacts}
 use Rattle.condition.specs.declared.Facts.{Facts}
 use Rattle.condition.specs.declared.CondRead.the-variants.{Next, Bad}
 

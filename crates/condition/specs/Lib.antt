@@ -1,4 +1,4 @@
 pub mod Cond
 pub mod Reading
-pub mod Joining
 pub mod Worked
+pub mod inside

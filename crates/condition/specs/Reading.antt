@@ -5,10 +5,7 @@ use mathlib.Core.Bool.{Bool, true, false}
 use lib.Dec.{ltb, leb, eqb}
 use Rattle.answer.specs.declared.Refusal.the-variants.{InputNo, Big}
 use Rattle.bits.specs.Read.{Ans, ok, no, bind, guard, readField}
-use Rattle.condition.specs.Cond.{Cond, inp, neg, conj, disj, eval, wordCount}
-use Rattle.condition.specs.declared.Facts.{Facts}
-use Rattle.condition.specs.declared.CondRead.{CondRead}
-use Rattle.condition.specs.declared.CondRead.the-variants.{Next, Bad}
+use Rattle.condition.specs.Cond.{Cond, inp, neg, conj, disj}
 
 -- a tree, and the nodes read with it and before it
 pub record Counted : Type 0 where
@@ -53,22 +50,3 @@ condAt (suc room) s k seen at =
 -- a whole condition: nothing seen before it, and room for 8 levels
 abbrev pub conditionAt : List ℕ → ℕ → ℕ → Ans Counted
 conditionAt s k at = condAt 8 s k 0 at
-
--- the forms that HOME-FORM and GATE ask for: 1 input 0; 2 NOT input 0; 3 an AND whose first operand is input 0; else 0
-abbrev pub pickForm : Bool → ℕ → ℕ
-pickForm true n = n
-pickForm false n = 0
-
-unfoldable pub formOf : Cond → ℕ
-formOf (inp i) = pickForm (eqb i 0) 1
-formOf (neg c) = pickForm (eqb (formOf c) 1) 2
-formOf (conj a b) = pickForm (eqb (formOf a) 1) 3
-formOf (disj a b) = 0
-
--- what the code says of a condition, which makes no trees: the nodes so far, its value, its form and its words
-abbrev pub factsOf : ℕ → Counted → Facts
-factsOf word t = record { nodes = t .count; value = eval word (t .tree); form = formOf (t .tree); words = wordCount (t .tree) }
-
-abbrev pub forget : ℕ → Ans Counted → CondRead
-forget word (ok t next) = Next (record { at = next }) (factsOf word t)
-forget word (no r) = Bad r

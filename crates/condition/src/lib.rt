@@ -4,8 +4,10 @@ use bits::Cursor;
 use bits::Got;
 ghost use mathlib.Core.Path.{_≡_};
 ghost use Prim.Native.Nat.{_+_, _*_, _≤_, _<_};
-ghost use Rattle.condition.specs.Reading.{condAt, inputAt, operandsAt, forget};
-ghost use Rattle.condition.specs.Joining.{negFacts, joinFacts};
+ghost use Rattle.bits.specs.Field.{reach};
+ghost use Rattle.condition.specs.Reading.{condAt, inputAt, operandsAt};
+ghost use Rattle.condition.specs.inside.Reach.{condReach};
+ghost use Rattle.condition.specs.inside.Facts.{forget, negFacts, joinFacts};
 
 // The nodes of a condition and of what was read before it; the condition's value at an input word, its form and its words of code.
 // The form: 1 input 0; 2 NOT input 0; 3 an AND whose first operand is input 0; else 0.
@@ -81,7 +83,7 @@ fn joined(tag: u32, f: Facts, g: Facts) -> Facts
 
 // The number of an input node, whose tag is read.
 fn read_input(s: &[u8], c: Cursor, inputs: u32, seen: u32, word: u32) -> CondRead
-    requires { ⌜ (c .at < 990000) × (seen < 31) ⌝ }
+    requires { ⌜ (c .at < reach) × (seen < 31) ⌝ }
     ensures { λ r. ⌜ r ≡ forget word (inputAt (now (s .entry)) inputs seen (c .at)) ⌝ }
 {
     let at = c.at;
@@ -117,7 +119,7 @@ fn read_input(s: &[u8], c: Cursor, inputs: u32, seen: u32, word: u32) -> CondRea
 
 // The condition at the cursor, at most `room` deep, of a sheet with `inputs` inputs, where `seen` nodes stand before it.
 pub fn read_condition(s: &[u8], c: Cursor, inputs: u32, room: u32, seen: u32, word: u32) -> CondRead
-    requires { ⌜ (c .at < 900000 + 6 * seen) × (seen ≤ 31) ⌝ }
+    requires { ⌜ (c .at < condReach + 6 * seen) × (seen ≤ 31) ⌝ }
     ensures { λ r. ⌜ r ≡ forget word (condAt room (now (s .entry)) inputs seen (c .at)) ⌝ }
 {
     let at = c.at;
@@ -147,7 +149,7 @@ fn read_operands(
     tag: u32,
     word: u32,
 ) -> CondRead
-    requires { ⌜ (c .at < 900000 + 6 * seen) × (seen ≤ 31) ⌝ }
+    requires { ⌜ (c .at < condReach + 6 * seen) × (seen ≤ 31) ⌝ }
     ensures { λ r. ⌜ r ≡ forget word (operandsAt (condAt room (now (s .entry)) inputs) tag seen (c .at)) ⌝ }
 {
     let first = read_condition(s, c, inputs, room, seen, word);

@@ -25,8 +25,8 @@ use Rattle.condition.specs.declared.CondRead.the-variants as condread
 use Rattle.condition.proofs.Laws.{cond-went}
 use Rattle.reader.specs.Sheet.{Transition, Sheet, count, noTransition}
 use Rattle.reader.specs.Reading.{readHeader, rowAt, transitionAt, endsAt, readSheet}
-use Rattle.reader.specs.Packing.{unpack, lineAt}
-use Rattle.reader.specs.Decoding.{Names, namesAt, restAt, HeadIs, forgetRow, forgetNames, LineIs, Holds, HoldsRows, HoldsLines, Copy, Answers}
+use Rattle.reader.specs.inside.Packing.{unpack, lineAt}
+use Rattle.reader.specs.inside.Decoding.{Names, namesAt, restAt, HeadIs, forgetRow, forgetNames, LineIs, Holds, HoldsRows, HoldsLines, Copy, Answers}
 use Rattle.reader.specs.declared.Header.{Header}
 use Rattle.reader.specs.declared.Decoded.{Decoded}
 use Rattle.reader.specs.declared.How.{How}

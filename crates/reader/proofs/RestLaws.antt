@@ -11,12 +11,13 @@ use Rattle.bits.specs.Read.{no}
 use Rattle.bits.specs.declared.Cursor.{Cursor}
 use Rattle.bits.specs.declared.Got.the-variants as got
 use Rattle.bits.proofs.FieldLaws.{field-got}
-use Rattle.condition.specs.Reading.{conditionAt, forget}
+use Rattle.condition.specs.Reading.{conditionAt}
+use Rattle.condition.specs.inside.Facts.{forget}
 use Rattle.condition.specs.declared.Facts.{Facts}
 use Rattle.condition.specs.declared.CondRead.the-variants as condread
 use Rattle.condition.proofs.Laws.{forget-next, forget-bad, told}
-use Rattle.reader.specs.Decoding.{restAt, LineIs}
-use Rattle.reader.specs.Packing.{pack, unpack, Fits}
+use Rattle.reader.specs.inside.Decoding.{restAt, LineIs}
+use Rattle.reader.specs.inside.Packing.{pack, unpack, Digits, lineReach}
 use Rattle.reader.specs.declared.Line.{Line}
 use Rattle.reader.proofs.PackLaws.{unpack-pack, form-few}
 
@@ -45,7 +46,7 @@ module _ (s : List ℕ) (k source destination at : ℕ) where
         abbrev line : Line
         line = record { source = source; destination = destination; priority = priority; form = f .form; words = f .words; wait = wait; cond = c2 .at }
 
-        pub line-fits : at < 32000 → source < 32 → destination < 32 → Fits line
+        pub line-fits : at < lineReach + 10 → source < 32 → destination < 32 → Digits line
         line-fits near l m =
             let x = forget-next 0 (conditionAt s k (c2 .at)) next f e in
             record {
@@ -59,7 +60,7 @@ module _ (s : List ℕ) (k source destination at : ℕ) where
             }
 
         -- and entry i of the array keeps it
-        pub rest-line : at < 32000 → source < 32 → destination < 32 → (i word : ℕ) (before : List ℕ) → word ≡ pack line
+        pub rest-line : at < lineReach + 10 → source < 32 → destination < 32 → (i word : ℕ) (before : List ℕ) → word ≡ pack line
             → LineIs s k (restAt s k source destination at) i before (condread.Next next f) (set before i word)
         unfolding restAt
         rest-line near l m i word before w =

@@ -1,4 +1,3 @@
 pub mod Sheet
 pub mod Reading
-pub mod Packing
-pub mod Decoding
+pub mod inside

@@ -4,13 +4,15 @@ use bits::Cursor;
 use bits::Got;
 use condition::CondRead;
 ghost use mathlib.Core.Path.{_≡_};
-ghost use Prim.Native.Nat.{_≤_, _<_};
+ghost use Prim.Native.Nat.{_+_, _≤_, _<_};
 ghost use lib.ListN.{length};
+ghost use Rattle.bits.specs.Field.{reach};
 ghost use Rattle.bits.specs.Word.{bitsOf, wordOf};
 ghost use Rattle.bits.specs.Read.{upto};
+ghost use Rattle.condition.specs.inside.Reach.{condReach};
 ghost use Rattle.reader.specs.Reading.{readHeader, rowAt, transitionAt, endsAt, readSheet};
-ghost use Rattle.reader.specs.Packing.{pack, unpack, Fits};
-ghost use Rattle.reader.specs.Decoding.{HeadIs, forgetRow, HoldsRows, forgetNames, namesAt, LineIs, restAt, HoldsLines, Answers};
+ghost use Rattle.reader.specs.inside.Packing.{pack, unpack, Digits, lineReach};
+ghost use Rattle.reader.specs.inside.Decoding.{HeadIs, forgetRow, HoldsRows, forgetNames, namesAt, LineIs, restAt, HoldsLines, Answers};
 
 // The header's four numbers.
 pub struct Header {
@@ -130,7 +132,7 @@ fn output_word(v: u32, width: usize) -> u16
 }
 
 fn read_row(s: &[u8], c: Cursor, width: usize) -> RowRead
-    requires { ⌜ (c .at < 1000000) × (1 ≤ width) × (width ≤ 16) ⌝ }
+    requires { ⌜ (c .at < reach) × (1 ≤ width) × (width ≤ 16) ⌝ }
     ensures { λ r. ⌜ r ≡ forgetRow (rowAt (now (s .entry)) width (c .at)) ⌝ }
 {
     let at = c.at;
@@ -166,7 +168,7 @@ fn read_rows(s: &[u8], c: Cursor, n: usize, width: usize, rows: &mut [u16; 32]) 
 
 // The source and the destination of a transition.
 fn read_names(s: &[u8], c: Cursor, n: u32) -> NamesRead
-    requires { ⌜ c .at < 800000 ⌝ }
+    requires { ⌜ c .at < condReach ⌝ }
     ensures { λ r. ⌜ r ≡ forgetNames (namesAt (now (s .entry)) n (c .at)) ⌝ }
 {
     let at = c.at;
@@ -188,9 +190,9 @@ fn read_names(s: &[u8], c: Cursor, n: u32) -> NamesRead
     NamesRead::Names(source as u8, destination as u8, c2)
 }
 
-// A line in one number: source and priority are its highest digits, so that they order it.
+// A line in one number: source and priority are its highest digits, so that they order it. No bit of the 64 is left.
 fn packed(t: Line) -> u64
-    requires { ⌜ Fits t ⌝ }
+    requires { ⌜ Digits t ⌝ }
     ensures { λ r. ⌜ r ≡ pack t ⌝ }
 {
     let key = (t.source as u64) * 128 + (t.priority as u64);
@@ -227,7 +229,7 @@ fn read_rest(
     lines: &mut [u64; 128],
     i: usize,
 ) -> CondRead
-    requires { ⌜ (c .at < 32000) × (source < 32) × (destination < 32) × (i < 128) × (length (now lines) ≡ 128) ⌝ }
+    requires { ⌜ (c .at < lineReach + 10) × (source < 32) × (destination < 32) × (i < 128) × (length (now lines) ≡ 128) ⌝ }
     ensures { λ r. ⌜ LineIs (now (s .entry)) k (restAt (now (s .entry)) k source destination (c .at)) i (now (lines .entry)) r (now (lines .exit)) ⌝ }
 {
     let at = c.at;
@@ -267,7 +269,7 @@ fn read_transition(
     lines: &mut [u64; 128],
     i: usize,
 ) -> CondRead
-    requires { ⌜ (c .at < 31000) × (i < 128) × (length (now lines) ≡ 128) ⌝ }
+    requires { ⌜ (c .at < lineReach) × (i < 128) × (length (now lines) ≡ 128) ⌝ }
     ensures { λ r. ⌜ LineIs (now (s .entry)) k (transitionAt (now (s .entry)) n k (c .at)) i (now (lines .entry)) r (now (lines .exit)) ⌝ }
 {
     let g = read_names(s, c, n);
@@ -303,7 +305,7 @@ fn read_transitions(s: &[u8], c: Cursor, n: u32, k: u32, m: usize, lines: &mut [
 
 // Whether nothing but zero bits up to the byte follows.
 fn ends_here(s: &[u8], c: Cursor) -> bool
-    requires { ⌜ c .at < 100000 ⌝ }
+    requires { ⌜ c .at < reach ⌝ }
     ensures { λ r. ⌜ r ≡ endsAt (now (s .entry)) (c .at) ⌝ }
 {
     let at = c.at;

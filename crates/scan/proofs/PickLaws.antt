@@ -11,16 +11,17 @@ use lib.Seq.{drop-cons}
 use Rattle.bits.specs.declared.Cursor.{Cursor}
 use Rattle.bits.proofs.ReadLaws.{ok-is, ok-no}
 use Rattle.condition.specs.Cond.{eval}
-use Rattle.condition.specs.Reading.{Counted, counted, conditionAt, forget}
+use Rattle.condition.specs.Reading.{Counted, counted, conditionAt}
+use Rattle.condition.specs.inside.Facts.{forget}
 use Rattle.condition.specs.declared.Facts.{Facts}
 use Rattle.condition.specs.declared.CondRead.the-variants.{Next, Bad}
 use Rattle.condition.proofs.Laws.{forget-next, forget-bad}
 use Rattle.answer.specs.declared.Refusal.{Refusal}
 use Rattle.reader.specs.Sheet.{Transition, noTransition}
-use Rattle.reader.specs.Decoding.{Holds}
+use Rattle.reader.specs.inside.Decoding.{Holds}
 use Rattle.reader.specs.declared.Line.{Line}
 use Rattle.scan.specs.Scan.{Choice, none, some, can, best}
-use Rattle.scan.specs.Picking.{Picks, tookOf}
+use Rattle.scan.specs.inside.Picking.{Picks, tookOf}
 use Rattle.scan.specs.declared.Pick.{Pick}
 use Rattle.scan.specs.declared.Pick.the-variants as pick
 use Rattle.scan.proofs.ChoiceLaws.{merge, nearer, merge-step}

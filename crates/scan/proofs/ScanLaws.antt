@@ -11,16 +11,16 @@ use Rattle.answer.specs.declared.Refusal.the-variants.{NoState}
 use Rattle.answer.specs.declared.Checked.the-variants.{Refused}
 use Rattle.bits.specs.Word.{wordOf}
 use Rattle.reader.specs.Sheet.{Transition, rowOf, transitionOf}
-use Rattle.reader.specs.Packing.{lineAt}
-use Rattle.reader.specs.Decoding.{Holds}
+use Rattle.reader.specs.inside.Packing.{lineAt}
+use Rattle.reader.specs.inside.Decoding.{Holds}
 use Rattle.sheet.specs.Judging.{checkSheet}
-use Rattle.sheet.specs.Opening.{Good}
+use Rattle.sheet.specs.inside.Opening.{Good}
 use Rattle.sheet.specs.declared.Opened.{Opened}
 use Rattle.sheet.proofs.WithLaws.{with-refused, with-accepted}
 use Rattle.format.specs.Fields.{WellFormed}
 use Rattle.format.proofs.Format.{read-formed}
 use Rattle.scan.specs.Scan.{Choice, none, some, can, best, outputsOf, stateWith, after, scanOf, coldOf, accepted, refused, zeros, scanSheet, coldScan}
-use Rattle.scan.specs.Picking.{Picks, Inside, movedOf}
+use Rattle.scan.specs.inside.Picking.{Picks, Inside, movedOf}
 use Rattle.scan.specs.declared.State.{State}
 use Rattle.scan.specs.declared.Pick.{Pick}
 use Rattle.scan.specs.declared.Pick.the-variants as pick

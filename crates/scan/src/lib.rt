@@ -9,12 +9,13 @@ ghost use mathlib.Core.Path.{_≡_};
 ghost use mathlib.Core.List.{List};
 ghost use Prim.Native.Nat.{ℕ, _≤_, _<_};
 ghost use lib.ListN.{length, getD};
+ghost use Rattle.condition.specs.inside.Reach.{condReach};
 ghost use Rattle.reader.specs.Sheet.{Transition, noTransition};
-ghost use Rattle.reader.specs.Packing.{lineAt};
-ghost use Rattle.reader.specs.Decoding.{Holds};
-ghost use Rattle.sheet.specs.Opening.{Opens};
+ghost use Rattle.reader.specs.inside.Packing.{lineAt};
+ghost use Rattle.reader.specs.inside.Decoding.{Holds};
+ghost use Rattle.sheet.specs.inside.Opening.{Opens};
 ghost use Rattle.scan.specs.Scan.{can, best, stateWith, scannedWith, scanSheet, Scans, ColdScans};
-ghost use Rattle.scan.specs.Picking.{Picks, tookOf, Inside, movedOf};
+ghost use Rattle.scan.specs.inside.Picking.{Picks, tookOf, Inside, movedOf};
 
 // The reference's record: the active state, its outputs (output a has weight 2^a) and the clock.
 pub struct State {
@@ -57,7 +58,7 @@ pub enum Pick {
 
 // Whether the line's transition can fire: its condition is judged straight from the sheet's bits, and only if its source is the active state.
 fn can_fire(s: &[u8], line: Line, k: u32, active: u8, word: u32, clock: u32) -> bool
-    requires { ⌜ line .cond < 900000 ⌝ }
+    requires { ⌜ line .cond < condReach ⌝ }
     ensures { λ r. ⌜ ((t : Transition) → Holds (now (s .entry)) k line t → r ≡ can active word clock t) ⌝ }
 {
     if line.source != active {
@@ -87,7 +88,7 @@ fn took(p: Pick, line: Line) -> Pick
 
 // Of the m transitions, the one that fires.
 fn choose(s: &[u8], lines: &[u64; 128], m: usize, k: u32, active: u8, word: u32, clock: u32) -> Pick
-    requires { ⌜ (m ≤ 128) × ((i : ℕ) → i < m → lineAt (now lines) i .cond < 900000) ⌝ }
+    requires { ⌜ (m ≤ 128) × ((i : ℕ) → i < m → lineAt (now lines) i .cond < condReach) ⌝ }
     ensures { λ r. ⌜ ((ts : List Transition) → length ts ≡ m → ((i : ℕ) → i < m → Holds (now (s .entry)) k (lineAt (now (lines .entry)) i) (getD ts i noTransition)) → Picks r (best active word clock ts)) ⌝ }
 {
     let mut best = Pick::Nothing;

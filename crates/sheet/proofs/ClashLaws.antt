@@ -14,8 +14,8 @@ use lib.Seq.{getD-set-same, getD-set-other}
 use Rattle.answer.specs.Lowest.{anyBelow, firstBelow}
 use Rattle.answer.specs.declared.Found.the-variants.{At, Nothing}
 use Rattle.answer.proofs.Laws.{any-more, any-hit, any-same, first-more, first-hit, first-same}
-use Rattle.reader.specs.Packing.{unpack, lineAt}
-use Rattle.sheet.specs.Lines.{besides, clashLines, clashBelow, firstClash, keyOf, Keys, alikeBelow, firstAlike}
+use Rattle.reader.specs.inside.Packing.{unpack, lineAt}
+use Rattle.sheet.specs.inside.Lines.{besides, clashLines, clashBelow, firstClash, keyOf, Keys, alikeBelow, firstAlike}
 use Rattle.sheet.specs.declared.Clash.{Clash}
 use Rattle.sheet.specs.declared.Clash.the-variants as clash
 use Rattle.sheet.proofs.SearchLaws.{search-end}

@@ -7,7 +7,7 @@ use native.Mathlib.Omega.{arith}
 use Rattle.answer.specs.Lowest.{anyBelow, firstBelow}
 use Rattle.answer.proofs.Laws.{any-same, first-same}
 use Rattle.reader.specs.Sheet.{Transition, Sheet, count, transitionOf, rowOf}
-use Rattle.reader.specs.Decoding.{Copy}
+use Rattle.reader.specs.inside.Decoding.{Copy}
 use Rattle.reader.specs.declared.Decoded.{Decoded}
 use Rattle.sheet.specs.Judging.{
   loops,
@@ -21,8 +21,8 @@ use Rattle.sheet.specs.Judging.{
   wrongActivity,
   judge,
 }
-use Rattle.reader.specs.Packing.{lineAt}
-use Rattle.sheet.specs.Lines.{
+use Rattle.reader.specs.inside.Packing.{lineAt}
+use Rattle.sheet.specs.inside.Lines.{
   breaksLine,
   firstBreak,
   clashLines,

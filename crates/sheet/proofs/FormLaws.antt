@@ -4,7 +4,7 @@ use mathlib.Core.Bool.{Bool, true, false, _||_}
 use Prim.Native.Nat.{ℕ}
 use lib.Dec.{eqb}
 use Rattle.condition.specs.Cond.{Cond, inp, neg, conj, disj, isOn, isOff, isGated}
-use Rattle.condition.specs.Reading.{pickForm, formOf}
+use Rattle.condition.specs.inside.Facts.{pickForm, formOf}
 
 -- two tests of a Bool that agree at both its values
 both : (f g : Bool → Bool) → f true ≡ g true → f false ≡ g false → (b : Bool) → f b ≡ g b

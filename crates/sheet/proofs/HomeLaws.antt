@@ -13,8 +13,8 @@ use Rattle.answer.proofs.BoolLaws.{and-true as both}
 use Rattle.answer.proofs.Laws.{first-same}
 use Rattle.bits.specs.Word.{getBit, putBit}
 use Rattle.bits.proofs.WordLaws.{bit-zero}
-use Rattle.reader.specs.Packing.{lineAt}
-use Rattle.sheet.specs.Lines.{homeLine, hasHome, Homes, lacksHomeLine, lacksBit}
+use Rattle.reader.specs.inside.Packing.{lineAt}
+use Rattle.sheet.specs.inside.Lines.{homeLine, hasHome, Homes, lacksHomeLine, lacksBit}
 
 -- the test that lets a source have a bit
 pub source-fits : (a : Bool) (source : ℕ) → a && ltb source 32 ≡ true → source < 32

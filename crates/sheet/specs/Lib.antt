@@ -1,4 +1,3 @@
 pub mod Judging
-pub mod Lines
-pub mod Opening
 pub mod Table
+pub mod inside

@@ -11,10 +11,10 @@ ghost use Prim.Native.Nat.{ℕ, _≤_};
 ghost use lib.ListN.{length};
 ghost use Rattle.answer.specs.Lowest.{firstBelow};
 ghost use Rattle.reader.specs.Sheet.{Sheet};
-ghost use Rattle.reader.specs.Decoding.{Copy};
+ghost use Rattle.reader.specs.inside.Decoding.{Copy};
 ghost use Rattle.sheet.specs.Judging.{judge, ChecksSheet};
-ghost use Rattle.sheet.specs.Lines.{breaksLine, firstBreak, keyOf, Keys, firstAlike, Homes, lacksHomeLine, activityRow, judgeForms};
-ghost use Rattle.sheet.specs.Opening.{Opens};
+ghost use Rattle.sheet.specs.inside.Lines.{breaksLine, firstBreak, keyOf, Keys, firstAlike, Homes, lacksHomeLine, activityRow, judgeForms};
+ghost use Rattle.sheet.specs.inside.Opening.{Opens};
 
 // What a sheet's bytes are found to be: the verdict, and the decoded copy where it accepts.
 pub struct Opened {

@@ -5,7 +5,8 @@ use mathlib.Core.Path.{sym, ap, _∙_}
 use native.Mathlib.Omega.{arith}
 use lib.ListN.{length}
 use Rattle.bits.proofs.FieldLaws.{field-got}
-use Rattle.condition.specs.Reading.{condAt, forget}
+use Rattle.condition.specs.Reading.{condAt}
+use Rattle.condition.specs.inside.Facts.{forget}
 use Rattle.condition.specs.declared.CondRead.the-variants.{Next}
 use Rattle.condition.proofs.Laws.{cond-short, cond-deep, cond-node, told, ops-bad, ops-one, ops-two-bad, ops-two}
 use Prim.Native.Nat.{ℕ, _+_, _*_, _-_, _<_}

@@ -5,7 +5,8 @@ use mathlib.Core.Path.{sym, _∙_}
 use native.Mathlib.Omega.{arith}
 use Rattle.bits.proofs.FieldLaws.{field-got}
 use Rattle.condition.specs.Cond.{eval, wordCount}
-use Rattle.condition.specs.Reading.{inputAt, formOf}
+use Rattle.condition.specs.Reading.{inputAt}
+use Rattle.condition.specs.inside.Facts.{formOf}
 use Rattle.condition.proofs.read_input.Statement.{statement}
 use Rattle.condition.proofs.read_input.Tie as tie
 

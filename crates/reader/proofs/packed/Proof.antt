@@ -1,7 +1,7 @@
 -- `reader::packed` meets its contract. Assumes nothing.
 use borrow.Author.Needs.{needs}
 use mathlib.Core.Path.{refl}
-use Rattle.reader.specs.Packing.{pack}
+use Rattle.reader.specs.inside.Packing.{pack}
 use Rattle.reader.proofs.packed.Statement.{statement}
 use Rattle.reader.proofs.packed.Tie as tie
 

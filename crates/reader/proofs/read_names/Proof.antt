@@ -6,7 +6,7 @@ use native.Mathlib.Omega.{arith}
 use Rattle.bits.specs.Field.{fieldAt}
 use Rattle.bits.specs.declared.Got.the-variants as got
 use Rattle.bits.proofs.FieldLaws.{Here, field-got}
-use Rattle.reader.specs.Decoding.{namesAt}
+use Rattle.reader.specs.inside.Decoding.{namesAt}
 use Rattle.reader.proofs.read_names.Statement.{statement}
 use Rattle.reader.proofs.read_names.Tie as tie
 

@@ -11,8 +11,8 @@ use Rattle.bits.specs.Read.{ok, upto}
 use Rattle.bits.proofs.ReadLaws.{upto-length}
 use Rattle.reader.specs.Sheet.{Transition, noTransition}
 use Rattle.reader.specs.Reading.{readHeader, rowAt, transitionAt, readSheet}
-use Rattle.reader.specs.Packing.{lineAt}
-use Rattle.reader.specs.Decoding.{Holds}
+use Rattle.reader.specs.inside.Packing.{lineAt}
+use Rattle.reader.specs.inside.Decoding.{Holds}
 use Rattle.reader.specs.declared.Header.{Header}
 use Rattle.reader.proofs.Laws.{
   Headed,

@@ -3,7 +3,7 @@ use borrow.Author.Needs.{needs}
 use mathlib.Core.Path.{_≡_, refl, sym, _∙_}
 use native.Mathlib.Omega.{arith}
 use Rattle.bits.specs.Read.{ok}
-use Rattle.reader.specs.Decoding.{namesAt}
+use Rattle.reader.specs.inside.Decoding.{namesAt}
 use Rattle.reader.proofs.Laws.{transition-is, names-got, names-bad, names-next, names-few}
 use Rattle.reader.proofs.read_transition.Statement.{statement}
 use Rattle.reader.proofs.read_transition.Tie as tie

@@ -9,8 +9,8 @@ use Rattle.bits.specs.Read.{ok, upto}
 use Rattle.bits.proofs.ReadLaws.{upto-more, upto-bad, upto-length}
 use Rattle.reader.specs.Sheet.{Transition, noTransition}
 use Rattle.reader.specs.Reading.{transitionAt}
-use Rattle.reader.specs.Decoding.{Holds}
-use Rattle.reader.specs.Packing.{unpack}
+use Rattle.reader.specs.inside.Decoding.{Holds}
+use Rattle.reader.specs.inside.Packing.{unpack}
 use Rattle.reader.proofs.FillLaws.{Filled, filled-more}
 use Rattle.reader.proofs.Laws.{line-got, line-bad, transition-next}
 use Rattle.reader.proofs.read_transitions.Statement.{statement}

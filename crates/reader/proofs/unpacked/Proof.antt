@@ -1,7 +1,7 @@
 -- `reader::unpacked` meets its contract. Assumes nothing.
 use borrow.Author.Needs.{needs}
 use mathlib.Core.Path.{refl}
-use Rattle.reader.specs.Packing.{unpack}
+use Rattle.reader.specs.inside.Packing.{unpack}
 use Rattle.reader.proofs.unpacked.Statement.{statement}
 use Rattle.reader.proofs.unpacked.Tie as tie
 

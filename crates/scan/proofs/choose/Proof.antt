@@ -7,8 +7,8 @@ use Prim.Native.Nat.{ℕ, _+_, _-_, _≤_, _<_}
 use native.Mathlib.Omega.{arith}
 use lib.ListN.{length, getD}
 use Rattle.reader.specs.Sheet.{Transition, noTransition}
-use Rattle.reader.specs.Packing.{lineAt}
-use Rattle.reader.specs.Decoding.{Holds}
+use Rattle.reader.specs.inside.Packing.{lineAt}
+use Rattle.reader.specs.inside.Decoding.{Holds}
 use Rattle.reader.specs.declared.Line.{Line}
 use Rattle.scan.specs.Scan.{can, best}
 use Rattle.scan.proofs.PickLaws.{Passed, passed-start, passed-fires, passed-stays, passed-end}

@@ -3,9 +3,9 @@ use borrow.Author.Needs.{needs}
 use mathlib.Core.Path.{sym, ap, _∙_}
 use Prim.Native.Nat.{ℕ}
 use native.Mathlib.Omega.{arith}
-use Rattle.sheet.specs.Opening.{Good}
+use Rattle.sheet.specs.inside.Opening.{Good}
 use Rattle.scan.specs.Scan.{best, after, scanOf, accepted}
-use Rattle.scan.specs.Picking.{Picks}
+use Rattle.scan.specs.inside.Picking.{Picks}
 use Rattle.scan.proofs.ScanLaws.{scan-refused, scan-accepted, scan-no-state, formed, inside, moved-is, lines-hold}
 use Rattle.scan.proofs.scan_opened.Statement.{statement}
 use Rattle.scan.proofs.scan_opened.Tie as tie

@@ -6,8 +6,8 @@ use native.Mathlib.Omega.{arith}
 use Rattle.answer.specs.Lowest.{firstBelow}
 use Rattle.answer.specs.declared.Found.the-variants.{Nothing}
 use Rattle.answer.proofs.Laws.{first-more, first-hit}
-use Rattle.reader.specs.Packing.{lineAt}
-use Rattle.sheet.specs.Lines.{breaksLine, firstBreak}
+use Rattle.reader.specs.inside.Packing.{lineAt}
+use Rattle.sheet.specs.inside.Lines.{breaksLine, firstBreak}
 use Rattle.sheet.proofs.SearchLaws.{search-end}
 use Rattle.sheet.proofs.first_line.Statement.{statement}
 use Rattle.sheet.proofs.first_line.Tie as tie

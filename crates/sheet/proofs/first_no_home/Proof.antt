@@ -6,7 +6,7 @@ use native.Mathlib.Omega.{arith}
 use Rattle.answer.specs.Lowest.{firstBelow}
 use Rattle.answer.specs.declared.Found.the-variants.{Nothing}
 use Rattle.answer.proofs.Laws.{first-more, first-hit}
-use Rattle.sheet.specs.Lines.{lacksBit}
+use Rattle.sheet.specs.inside.Lines.{lacksBit}
 use Rattle.sheet.proofs.SearchLaws.{search-end}
 use Rattle.sheet.proofs.HomeLaws.{by-word, bit-decides, past-idle}
 use Rattle.sheet.proofs.first_no_home.Statement.{statement}

@@ -6,7 +6,7 @@ use Prim.Native.Nat.{_-_, _≤_, _<_}
 use native.Mathlib.Omega.{arith}
 use lib.Dec.{eqb}
 use Rattle.reader.specs.declared.Line.{Line}
-use Rattle.sheet.specs.Lines.{Homes}
+use Rattle.sheet.specs.inside.Lines.{Homes}
 use Rattle.sheet.proofs.HomeLaws.{source-fits, homes-start, homes-set, homes-keep}
 use Rattle.sheet.proofs.homes.Statement.{statement}
 use Rattle.sheet.proofs.homes.Tie as tie

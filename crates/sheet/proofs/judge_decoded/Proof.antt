@@ -4,7 +4,7 @@ use mathlib.Core.Path.{_≡_, sym, _∙_}
 use mathlib.Core.List.{List}
 use Prim.Native.Nat.{ℕ}
 use Rattle.answer.specs.declared.Found.the-variants.{Nothing}
-use Rattle.sheet.specs.Lines.{firstBreak, firstClash, judgeLines}
+use Rattle.sheet.specs.inside.Lines.{firstBreak, firstClash, judgeLines}
 use Rattle.sheet.specs.declared.Rule.the-variants as rule
 use Rattle.sheet.specs.declared.Clash.the-variants as clash
 use Rattle.sheet.proofs.ClashLaws.{by-keys}

@@ -3,7 +3,7 @@ use borrow.Author.Needs.{needs}
 use mathlib.Core.Path.{_≡_, sym, _∙_}
 use Rattle.answer.specs.Lowest.{firstBelow}
 use Rattle.answer.specs.declared.Found.the-variants.{Nothing}
-use Rattle.sheet.specs.Lines.{lacksHomeLine, firstBreak, judgeForms}
+use Rattle.sheet.specs.inside.Lines.{lacksHomeLine, firstBreak, judgeForms}
 use Rattle.sheet.specs.declared.Rule.the-variants as rule
 use Rattle.sheet.proofs.judge_forms.Statement.{statement}
 use Rattle.sheet.proofs.judge_forms.Tie as tie

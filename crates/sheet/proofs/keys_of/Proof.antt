@@ -5,8 +5,8 @@ use mathlib.Core.List.{List}
 use Prim.Native.Nat.{ℕ, _+_, _-_, _≤_}
 use native.Mathlib.Omega.{arith}
 use lib.ListN.{length, length-set, set}
-use Rattle.reader.specs.Packing.{lineAt}
-use Rattle.sheet.specs.Lines.{keyOf, Keys}
+use Rattle.reader.specs.inside.Packing.{lineAt}
+use Rattle.sheet.specs.inside.Lines.{keyOf, Keys}
 use Rattle.sheet.proofs.ClashLaws.{keys-more}
 use Rattle.sheet.proofs.keys_of.Statement.{statement}
 use Rattle.sheet.proofs.keys_of.Tie as tie

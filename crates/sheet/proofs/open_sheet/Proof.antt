@@ -5,7 +5,7 @@ use native.Mathlib.Omega.{arith}
 use Rattle.bits.specs.Read.{ok}
 use Rattle.reader.specs.Sheet.{Sheet}
 use Rattle.reader.specs.Reading.{readSheet}
-use Rattle.reader.specs.Decoding.{Copy}
+use Rattle.reader.specs.inside.Decoding.{Copy}
 use Rattle.reader.proofs.Laws.{answers-done, answers-bad, read-sizes}
 use Rattle.sheet.proofs.WithLaws.{accepted-refused, check-read, check-unread}
 use Rattle.sheet.proofs.open_sheet.Statement.{statement}

@@ -4,7 +4,8 @@ use mathlib.Core.List.{List}
 use lib.ListN.{getD}
 use Rattle.reader.specs.declared.Line.{Line}
 
--- each field is a digit of its own; source and priority are the highest two, so that they order the numbers
+-- Each field is a digit of its own; source and priority are the highest two, so that they order the numbers.
+-- 5, 7, 5, 2, 6, 15 and 24 bits are 64: the number has no bit left, and a further field needs another array.
 unfoldable pub pack : Line → ℕ
 pack t =
     let key = t .source * 128 + t .priority in
@@ -28,7 +29,7 @@ unpack w =
     }
 
 -- each field is below its digit's base
-pub record Fits (t : Line) : Type 0 where
+pub record Digits (t : Line) : Type 0 where
   pub source : t .source < 32
   pub destination : t .destination < 32
   pub priority : t .priority < 128
@@ -36,6 +37,11 @@ pub record Fits (t : Line) : Type 0 where
   pub words : t .words < 64
   pub wait : t .wait < 16777216
   pub cond : t .cond < 32768
+
+-- Below this bit a transition may begin, so that the first bit of its condition is below its digit's base. None begins later: 128 of at
+-- most 227 bits stand behind bit 532.
+abbrev pub lineReach : ℕ
+lineReach = 31000
 
 -- line i of the array
 abbrev pub lineAt : List ℕ → ℕ → Line

@@ -13,7 +13,7 @@ use Rattle.answer.specs.Lowest.{anyBelow, firstBelow, refuseAt}
 use Rattle.bits.specs.Word.{getBit}
 use Rattle.reader.specs.declared.Line.{Line}
 use Rattle.reader.specs.declared.Decoded.{Decoded}
-use Rattle.reader.specs.Packing.{lineAt}
+use Rattle.reader.specs.inside.Packing.{lineAt}
 use Rattle.sheet.specs.declared.Rule.{Rule}
 use Rattle.sheet.specs.declared.Rule.the-variants as rule
 use Rattle.sheet.specs.declared.Clash.{Clash}

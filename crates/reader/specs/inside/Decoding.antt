@@ -9,14 +9,16 @@ use Rattle.answer.specs.declared.Refusal.the-variants as refuse
 use Rattle.bits.specs.Word.{wordOf}
 use Rattle.bits.specs.Read.{Ans, ok, no, bind, guard, readField}
 use Rattle.condition.specs.Cond.{wordCount}
-use Rattle.condition.specs.Reading.{counted, conditionAt, formOf}
+use Rattle.condition.specs.Reading.{counted, conditionAt}
+use Rattle.condition.specs.inside.Reach.{condReach}
+use Rattle.condition.specs.inside.Facts.{formOf}
 use Rattle.condition.specs.declared.Facts.{Facts}
 use Rattle.condition.specs.declared.CondRead.{CondRead}
 use Rattle.condition.specs.declared.CondRead.the-variants as condread
 use Rattle.reader.specs.Sheet.{Transition, Sheet, count, transitionOf, rowOf, noTransition}
 use Rattle.reader.specs.declared.Header.{Header}
 use Rattle.reader.specs.declared.Line.{Line}
-use Rattle.reader.specs.Packing.{unpack, lineAt}
+use Rattle.reader.specs.inside.Packing.{unpack, lineAt}
 use Rattle.reader.specs.declared.Decoded.{Decoded}
 use Rattle.reader.specs.declared.How.{How}
 use Rattle.reader.specs.declared.How.the-variants as how
@@ -66,7 +68,7 @@ pub record Holds (s : List ℕ) (k : ℕ) (line : Line) (t : Transition) : Type 
   pub wait : line .wait ≡ t .wait
   pub form : line .form ≡ formOf (t .condition)
   pub words : line .words ≡ wordCount (t .condition)
-  pub near : line .cond < 900000
+  pub near : line .cond < condReach
   pub nodes : ℕ
   pub next : ℕ
   pub there : conditionAt s k (line .cond) ≡ ok (counted (t .condition) nodes) next

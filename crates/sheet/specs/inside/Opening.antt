@@ -6,7 +6,7 @@ use Rattle.answer.specs.declared.Checked.the-variants.{Accepted}
 use Rattle.bits.specs.Read.{ok}
 use Rattle.reader.specs.Sheet.{Sheet}
 use Rattle.reader.specs.Reading.{readSheet}
-use Rattle.reader.specs.Decoding.{Copy}
+use Rattle.reader.specs.inside.Decoding.{Copy}
 use Rattle.sheet.specs.declared.Opened.{Opened}
 use Rattle.sheet.specs.Judging.{judge, checkSheet}
 

@@ -1,0 +1,3 @@
+-- How the code holds things: for private contracts only, not needed to read the promises.
+pub mod Packing
+pub mod Decoding
