@@ -25,8 +25,8 @@ use Rattle.condition.specs.declared.CondRead.the-variants as condread
 use Rattle.condition.proofs.Laws.{cond-went}
 use Rattle.reader.specs.Sheet.{Transition, Sheet, count, noTransition}
 use Rattle.reader.specs.Reading.{readHeader, rowAt, transitionAt, endsAt, readSheet}
-use Rattle.reader.specs.inside.Packing.{unpack, lineAt}
-use Rattle.reader.specs.inside.Decoding.{Names, namesAt, restAt, HeadIs, forgetRow, forgetNames, LineIs, Holds, HoldsRows, HoldsLines, Copy, Answers}
+use Rattle.reader.specs.inside.Packing.{unpack, arrowAt}
+use Rattle.reader.specs.inside.Decoding.{Names, namesAt, restAt, HeadIs, forgetRow, forgetNames, ArrowIs, Holds, HoldsRows, HoldsArrows, Copy, Answers}
 use Rattle.reader.specs.declared.Header.{Header}
 use Rattle.reader.specs.declared.Decoded.{Decoded}
 use Rattle.reader.specs.declared.How.{How}
@@ -155,25 +155,25 @@ next-cursor h = cc
 next-bad : {A : Type 0} {c : Cursor} {f : Facts} {q : Refusal} → condread.Next c f ≡ condread.Bad q → A
 next-bad h = let z : _≡_ {A = ℕ} 0 1 = cc in absurd (omega arith)
 
-bad-line : {p q : Refusal} → condread.Bad p ≡ condread.Bad q → p ≡ q
-bad-line h = cc
+bad-arrow : {p q : Refusal} → condread.Bad p ≡ condread.Bad q → p ≡ q
+bad-arrow h = cc
 
 module _ (s : List ℕ) (k : ℕ) (x : Ans Transition) (i : ℕ) (before : List ℕ) (r : CondRead) (after : List ℕ) where
-  pub line-got : (c : Cursor) (f : Facts) → LineIs s k x i before r after → r ≡ condread.Next c f
+  pub arrow-got : (c : Cursor) (f : Facts) → ArrowIs s k x i before r after → r ≡ condread.Next c f
       → (t : Transition) × (word : ℕ) × (x ≡ ok t (c .at)) × (after ≡ set before i word) × Holds s k (unpack word) t
-  line-got c f h e = go x h
+  arrow-got c f h e = go x h
     where
-      go : (x : Ans Transition) → LineIs s k x i before r after
+      go : (x : Ans Transition) → ArrowIs s k x i before r after
           → (t : Transition) × (word : ℕ) × (x ≡ ok t (c .at)) × (after ≡ set before i word) × Holds s k (unpack word) t
       go (ok t next) h = (t, h .0, ap (λ (m : ℕ). ok t m) (cursor-is (next-cursor (sym (h .2) ∙ e))), h .3, h .4)
       go (no why) h = next-bad (sym e ∙ h)
 
-  pub line-bad : (q : Refusal) → LineIs s k x i before r after → r ≡ condread.Bad q → x ≡ no q
-  line-bad q h e = go x h
+  pub arrow-bad : (q : Refusal) → ArrowIs s k x i before r after → r ≡ condread.Bad q → x ≡ no q
+  arrow-bad q h e = go x h
     where
-      go : (x : Ans Transition) → LineIs s k x i before r after → x ≡ no q
+      go : (x : Ans Transition) → ArrowIs s k x i before r after → x ≡ no q
       go (ok t next) h = next-bad (sym (h .2) ∙ e)
-      go (no p) h = ap no (bad-line (sym h ∙ e))
+      go (no p) h = ap no (bad-arrow (sym h ∙ e))
 
 -- rows and transitions that were read, or refused
 pub rows-done : (x : Ans (List (List Bool))) (n : ℕ) (r : How) (rows : List ℕ) (c : Cursor) → HoldsRows x n r rows → r ≡ how.Done c
@@ -185,14 +185,14 @@ pub rows-bad : (x : Ans (List (List Bool))) (n : ℕ) (r : How) (rows : List ℕ
 rows-bad (ok xs next) n r rows q h e = done-bad (sym (h .0) ∙ e)
 rows-bad (no why) n r rows q h e = ap no (bad-is (sym h ∙ e))
 
-pub lines-done : (s : List ℕ) (k : ℕ) (x : Ans (List Transition)) (m : ℕ) (r : How) (lines : List ℕ) (c : Cursor) → HoldsLines s k x m r lines → r ≡ how.Done c
-    → (ts : List Transition) × (x ≡ ok ts (c .at)) × (length lines ≡ 128) × ((i : ℕ) → i < m → Holds s k (lineAt lines i) (getD ts i noTransition))
-lines-done s k (ok ts next) m r lines c h e = (ts, ap (λ (n : ℕ). ok ts n) (cursor-is (done-is (sym (h .0) ∙ e))), h .1, h .2)
-lines-done s k (no why) m r lines c h e = done-bad (sym e ∙ h)
+pub arrows-done : (s : List ℕ) (k : ℕ) (x : Ans (List Transition)) (m : ℕ) (r : How) (arrows : List ℕ) (c : Cursor) → HoldsArrows s k x m r arrows → r ≡ how.Done c
+    → (ts : List Transition) × (x ≡ ok ts (c .at)) × (length arrows ≡ 128) × ((i : ℕ) → i < m → Holds s k (arrowAt arrows i) (getD ts i noTransition))
+arrows-done s k (ok ts next) m r arrows c h e = (ts, ap (λ (n : ℕ). ok ts n) (cursor-is (done-is (sym (h .0) ∙ e))), h .1, h .2)
+arrows-done s k (no why) m r arrows c h e = done-bad (sym e ∙ h)
 
-pub lines-bad : (s : List ℕ) (k : ℕ) (x : Ans (List Transition)) (m : ℕ) (r : How) (lines : List ℕ) (q : Refusal) → HoldsLines s k x m r lines → r ≡ how.Bad q → x ≡ no q
-lines-bad s k (ok ts next) m r lines q h e = done-bad (sym (h .0) ∙ e)
-lines-bad s k (no why) m r lines q h e = ap no (bad-is (sym h ∙ e))
+pub arrows-bad : (s : List ℕ) (k : ℕ) (x : Ans (List Transition)) (m : ℕ) (r : How) (arrows : List ℕ) (q : Refusal) → HoldsArrows s k x m r arrows → r ≡ how.Bad q → x ≡ no q
+arrows-bad s k (ok ts next) m r arrows q h e = done-bad (sym (h .0) ∙ e)
+arrows-bad s k (no why) m r arrows q h e = ap no (bad-is (sym h ∙ e))
 
 -- a row's word, one output more
 pub word-more : (v w : ℕ) → wordOf (bitsOf w v) * 2 + v / 2 ^ w % 2 ≡ wordOf (bitsOf (w + 1) v)
@@ -256,14 +256,14 @@ pub transitions-next : (s : List ℕ) (n k at m : ℕ) {ts : List Transition} {b
 transitions-next s n k at m h e = omega (arith, upto-next (transitionAt s n k) 227 (λ a t b e. transition-next s n k a e) at m e)
 
 -- a sheet that was read, or refused
-pub answers-done : (s : List ℕ) (x : Ans Sheet) (d : Decoded) (rows lines : List ℕ) (c : Cursor) → Answers s x d rows lines → d .how ≡ how.Done c
-    → (a : Sheet) × (x ≡ ok a (c .at)) × Copy s d rows lines a
-answers-done s (ok a end) d rows lines c h e = (a, ap (λ (m : ℕ). ok a m) (cursor-is (done-is (sym (h .0) ∙ e))), h .1)
-answers-done s (no why) d rows lines c h e = done-bad (sym e ∙ h)
+pub answers-done : (s : List ℕ) (x : Ans Sheet) (d : Decoded) (rows arrows : List ℕ) (c : Cursor) → Answers s x d rows arrows → d .how ≡ how.Done c
+    → (a : Sheet) × (x ≡ ok a (c .at)) × Copy s d rows arrows a
+answers-done s (ok a end) d rows arrows c h e = (a, ap (λ (m : ℕ). ok a m) (cursor-is (done-is (sym (h .0) ∙ e))), h .1)
+answers-done s (no why) d rows arrows c h e = done-bad (sym e ∙ h)
 
-pub answers-bad : (s : List ℕ) (x : Ans Sheet) (d : Decoded) (rows lines : List ℕ) (q : Refusal) → Answers s x d rows lines → d .how ≡ how.Bad q → x ≡ no q
-answers-bad s (ok a end) d rows lines q h e = done-bad (sym (h .0) ∙ e)
-answers-bad s (no why) d rows lines q h e = ap no (bad-is (sym h ∙ e))
+pub answers-bad : (s : List ℕ) (x : Ans Sheet) (d : Decoded) (rows arrows : List ℕ) (q : Refusal) → Answers s x d rows arrows → d .how ≡ how.Bad q → x ≡ no q
+answers-bad s (ok a end) d rows arrows q h e = done-bad (sym (h .0) ∙ e)
+answers-bad s (no why) d rows arrows q h e = ap no (bad-is (sym h ∙ e))
 
 -- a sheet that was read has at most 32 states and 128 transitions
 pub read-sizes : (s : List ℕ) (a : Sheet) (end : ℕ) → readSheet s ≡ ok a end → (a .states ≤ 32) × (count a ≤ 128)

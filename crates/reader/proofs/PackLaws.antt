@@ -6,10 +6,10 @@ use mathlib.Core.Bool.{Bool, true, false}
 use lib.Dec.{eqb}
 use Rattle.condition.specs.Cond.{Cond, inp, neg, conj, disj}
 use Rattle.condition.specs.inside.Facts.{pickForm, formOf}
-use Rattle.reader.specs.declared.Line.{Line}
+use Rattle.reader.specs.declared.Arrow.{Arrow}
 use Rattle.reader.specs.inside.Packing.{pack, unpack, Digits}
 
-pub unpack-pack : (t : Line) → Digits t → unpack (pack t) ≡ t
+pub unpack-pack : (t : Arrow) → Digits t → unpack (pack t) ≡ t
 unfolding pack unpack
 unpack-pack t f =
     let key = t .source * 128 + t .priority in

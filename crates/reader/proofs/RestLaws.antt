@@ -1,4 +1,4 @@
--- Laws of the rest of a transition: what its steps find, and the line that keeps it. Assumes nothing.
+-- Laws of the rest of a transition: what its steps find, and the arrow that keeps it. Assumes nothing.
 use mathlib.Core.Path.{_≡_, refl, ap, _∙_}
 use mathlib.Core.List.{List}
 use Prim.Native.Nat.{ℕ, _+_, _<_}
@@ -16,9 +16,9 @@ use Rattle.condition.specs.inside.Facts.{forget}
 use Rattle.condition.specs.declared.Facts.{Facts}
 use Rattle.condition.specs.declared.CondRead.the-variants as condread
 use Rattle.condition.proofs.Laws.{forget-next, forget-bad, told}
-use Rattle.reader.specs.inside.Decoding.{restAt, LineIs}
-use Rattle.reader.specs.inside.Packing.{pack, unpack, Digits, lineReach}
-use Rattle.reader.specs.declared.Line.{Line}
+use Rattle.reader.specs.inside.Decoding.{restAt, ArrowIs}
+use Rattle.reader.specs.inside.Packing.{pack, unpack, Digits, arrowReach}
+use Rattle.reader.specs.declared.Arrow.{Arrow}
 use Rattle.reader.proofs.PackLaws.{unpack-pack, form-few}
 
 module _ (s : List ℕ) (k source destination at : ℕ) where
@@ -42,12 +42,12 @@ module _ (s : List ℕ) (k source destination at : ℕ) where
           omega (arith, field-got s (c1 .at) 24 wait c2 e2 .after)
 
       module _ (next : Cursor) (f : Facts) (e : forget 0 (conditionAt s k (c2 .at)) ≡ condread.Next next f) where
-        -- the line that the code makes
-        abbrev line : Line
-        line = record { source = source; destination = destination; priority = priority; form = f .form; words = f .words; wait = wait; cond = c2 .at }
+        -- the arrow that the code makes
+        abbrev arrow : Arrow
+        arrow = record { source = source; destination = destination; priority = priority; form = f .form; words = f .words; wait = wait; cond = c2 .at }
 
-        pub line-fits : at < lineReach + 10 → source < 32 → destination < 32 → Digits line
-        line-fits near l m =
+        pub arrow-fits : at < arrowReach + 10 → source < 32 → destination < 32 → Digits arrow
+        arrow-fits near l m =
             let x = forget-next 0 (conditionAt s k (c2 .at)) next f e in
             record {
               source = l;
@@ -60,12 +60,12 @@ module _ (s : List ℕ) (k source destination at : ℕ) where
             }
 
         -- and entry i of the array keeps it
-        pub rest-line : at < lineReach + 10 → source < 32 → destination < 32 → (i word : ℕ) (before : List ℕ) → word ≡ pack line
-            → LineIs s k (restAt s k source destination at) i before (condread.Next next f) (set before i word)
+        pub rest-arrow : at < arrowReach + 10 → source < 32 → destination < 32 → (i word : ℕ) (before : List ℕ) → word ≡ pack arrow
+            → ArrowIs s k (restAt s k source destination at) i before (condread.Next next f) (set before i word)
         unfolding restAt
-        rest-line near l m i word before w =
+        rest-arrow near l m i word before w =
             let x = forget-next 0 (conditionAt s k (c2 .at)) next f e in
-            let back : unpack word ≡ line = ap unpack w ∙ unpack-pack line (line-fits near l m) in
+            let back : unpack word ≡ arrow = ap unpack w ∙ unpack-pack arrow (arrow-fits near l m) in
             rw (e1, e2, x .1) (
               word,
               f,

@@ -11,8 +11,8 @@ ghost use Rattle.bits.specs.Word.{bitsOf, wordOf};
 ghost use Rattle.bits.specs.Read.{upto};
 ghost use Rattle.condition.specs.inside.Reach.{condReach};
 ghost use Rattle.reader.specs.Reading.{readHeader, rowAt, transitionAt, endsAt, readSheet};
-ghost use Rattle.reader.specs.inside.Packing.{pack, unpack, Digits, lineReach};
-ghost use Rattle.reader.specs.inside.Decoding.{HeadIs, forgetRow, HoldsRows, forgetNames, namesAt, LineIs, restAt, HoldsLines, Answers};
+ghost use Rattle.reader.specs.inside.Packing.{pack, unpack, Digits, arrowReach};
+ghost use Rattle.reader.specs.inside.Decoding.{HeadIs, forgetRow, HoldsRows, forgetNames, namesAt, ArrowIs, restAt, HoldsArrows, Answers};
 
 // The header's four numbers.
 pub struct Header {
@@ -23,7 +23,7 @@ pub struct Header {
 }
 
 // A transition; `cond` is the first bit of its condition, `form` and `words` are facts of it.
-pub struct Line {
+pub struct Arrow {
     pub source: u8,
     pub destination: u8,
     pub priority: u8,
@@ -39,7 +39,7 @@ pub enum How {
     Bad(Refusal),
 }
 
-// A sheet's header, decoded once; its rows and lines stand in arrays that the caller lends.
+// A sheet's header, decoded once; its rows and arrows stand in arrays that the caller lends.
 pub struct Decoded {
     pub how: How,
     pub states: u32,
@@ -190,8 +190,8 @@ fn read_names(s: &[u8], c: Cursor, n: u32) -> NamesRead
     NamesRead::Names(source as u8, destination as u8, c2)
 }
 
-// A line in one number: source and priority are its highest digits, so that they order it. No bit of the 64 is left.
-fn packed(t: Line) -> u64
+// An arrow in one number: source and priority are its highest digits, so that they order it. No bit of the 64 is left.
+fn packed(t: Arrow) -> u64
     requires { ⌜ Digits t ⌝ }
     ensures { λ r. ⌜ r ≡ pack t ⌝ }
 {
@@ -201,14 +201,14 @@ fn packed(t: Line) -> u64
     cond * 16777216 + (t.wait as u64)
 }
 
-// The line that the number holds.
-pub fn unpacked(w: u64) -> Line
+// The arrow that the number holds.
+pub fn unpacked(w: u64) -> Arrow
     ensures { λ r. ⌜ r ≡ unpack w ⌝ }
 {
     let cond = w / 16777216;
     let form = cond / 32768 / 64;
     let key = form / 4 / 32;
-    Line {
+    Arrow {
         source: (key / 128 % 32) as u8,
         destination: (form / 4 % 32) as u8,
         priority: (key % 128) as u8,
@@ -219,18 +219,18 @@ pub fn unpacked(w: u64) -> Line
     }
 }
 
-// The rest of a transition behind its two states: priority, wait and condition. The answer is the condition's; line i keeps the whole.
+// The rest of a transition behind its two states: priority, wait and condition. The answer is the condition's; arrow i keeps the whole.
 fn read_rest(
     s: &[u8],
     c: Cursor,
     k: u32,
     source: u8,
     destination: u8,
-    lines: &mut [u64; 128],
+    arrows: &mut [u64; 128],
     i: usize,
 ) -> CondRead
-    requires { ⌜ (c .at < lineReach + 10) × (source < 32) × (destination < 32) × (i < 128) × (length (now lines) ≡ 128) ⌝ }
-    ensures { λ r. ⌜ LineIs (now (s .entry)) k (restAt (now (s .entry)) k source destination (c .at)) i (now (lines .entry)) r (now (lines .exit)) ⌝ }
+    requires { ⌜ (c .at < arrowReach + 10) × (source < 32) × (destination < 32) × (i < 128) × (length (now arrows) ≡ 128) ⌝ }
+    ensures { λ r. ⌜ ArrowIs (now (s .entry)) k (restAt (now (s .entry)) k source destination (c .at)) i (now (arrows .entry)) r (now (arrows .exit)) ⌝ }
 {
     let at = c.at;
     let g1 = bits::field(s, c, 7);
@@ -247,7 +247,7 @@ fn read_rest(
     let CondRead::Next(_, f) = a else {
         return a;
     };
-    let line = Line {
+    let arrow = Arrow {
         source: source,
         destination: destination,
         priority: priority as u8,
@@ -256,40 +256,40 @@ fn read_rest(
         wait: wait,
         cond: at2,
     };
-    lines[i] = packed(line);
+    arrows[i] = packed(arrow);
     a
 }
 
-// Transition i, which line i keeps.
+// Transition i, which arrow i keeps.
 fn read_transition(
     s: &[u8],
     c: Cursor,
     n: u32,
     k: u32,
-    lines: &mut [u64; 128],
+    arrows: &mut [u64; 128],
     i: usize,
 ) -> CondRead
-    requires { ⌜ (c .at < lineReach) × (i < 128) × (length (now lines) ≡ 128) ⌝ }
-    ensures { λ r. ⌜ LineIs (now (s .entry)) k (transitionAt (now (s .entry)) n k (c .at)) i (now (lines .entry)) r (now (lines .exit)) ⌝ }
+    requires { ⌜ (c .at < arrowReach) × (i < 128) × (length (now arrows) ≡ 128) ⌝ }
+    ensures { λ r. ⌜ ArrowIs (now (s .entry)) k (transitionAt (now (s .entry)) n k (c .at)) i (now (arrows .entry)) r (now (arrows .exit)) ⌝ }
 {
     let g = read_names(s, c, n);
     match g {
         NamesRead::Names(source, destination, next) => {
-            read_rest(s, next, k, source, destination, lines, i)
+            read_rest(s, next, k, source, destination, arrows, i)
         }
         NamesRead::Bad(why) => CondRead::Bad(why),
     }
 }
 
 // The first m transitions.
-fn read_transitions(s: &[u8], c: Cursor, n: u32, k: u32, m: usize, lines: &mut [u64; 128]) -> How
-    requires { ⌜ (c .at ≤ 1000) × (m ≤ 128) × (length (now lines) ≡ 128) ⌝ }
-    ensures { λ r. ⌜ HoldsLines (now (s .entry)) k (upto (transitionAt (now (s .entry)) n k) (c .at) m) m r (now (lines .exit)) ⌝ }
+fn read_transitions(s: &[u8], c: Cursor, n: u32, k: u32, m: usize, arrows: &mut [u64; 128]) -> How
+    requires { ⌜ (c .at ≤ 1000) × (m ≤ 128) × (length (now arrows) ≡ 128) ⌝ }
+    ensures { λ r. ⌜ HoldsArrows (now (s .entry)) k (upto (transitionAt (now (s .entry)) n k) (c .at) m) m r (now (arrows .exit)) ⌝ }
 {
     let mut here = c;
     let mut i: usize = 0;
     while i < m {
-        let g = read_transition(s, here, n, k, lines, i);
+        let g = read_transition(s, here, n, k, arrows, i);
         match g {
             CondRead::Next(next, _) => {
                 here = next;
@@ -338,9 +338,9 @@ fn unread(how: How) -> Decoded
 }
 
 // The sheet that the bytes are, or the first refusal met.
-pub fn read_sheet(s: &[u8], rows: &mut [u16; 32], lines: &mut [u64; 128]) -> Decoded
-    requires { ⌜ (length (now rows) ≡ 32) × (length (now lines) ≡ 128) ⌝ }
-    ensures { λ r. ⌜ Answers (now (s .entry)) (readSheet (now (s .entry))) r (now (rows .exit)) (now (lines .exit)) ⌝ }
+pub fn read_sheet(s: &[u8], rows: &mut [u16; 32], arrows: &mut [u64; 128]) -> Decoded
+    requires { ⌜ (length (now rows) ≡ 32) × (length (now arrows) ≡ 128) ⌝ }
+    ensures { λ r. ⌜ Answers (now (s .entry)) (readSheet (now (s .entry))) r (now (rows .exit)) (now (arrows .exit)) ⌝ }
 {
     let h = read_header(s);
     let how0 = h.how;
@@ -356,7 +356,7 @@ pub fn read_sheet(s: &[u8], rows: &mut [u16; 32], lines: &mut [u64; 128]) -> Dec
     let How::Done(c2) = how1 else {
         return unread(how1);
     };
-    let how2 = read_transitions(s, c2, n, k, m as usize, lines);
+    let how2 = read_transitions(s, c2, n, k, m as usize, arrows);
     let How::Done(c3) = how2 else {
         return unread(how2);
     };

@@ -1,4 +1,4 @@
--- Laws of the code's pick: what a line says of its transition, and a loop over the lines. Assumes nothing.
+-- Laws of the code's pick: what an arrow says of its transition, and a loop over the arrows. Assumes nothing.
 use mathlib.Core.Path.{_≡_, refl, sym, ap, _∙_}
 use mathlib.Core.Bool.{Bool, true, false, _&&_, cond}
 use mathlib.Core.List.{List}
@@ -19,29 +19,29 @@ use Rattle.condition.proofs.Laws.{forget-next, forget-bad}
 use Rattle.answer.specs.declared.Refusal.{Refusal}
 use Rattle.reader.specs.Sheet.{Transition, noTransition}
 use Rattle.reader.specs.inside.Decoding.{Holds}
-use Rattle.reader.specs.declared.Line.{Line}
+use Rattle.reader.specs.declared.Arrow.{Arrow}
 use Rattle.scan.specs.Scan.{Choice, none, some, can, best}
 use Rattle.scan.specs.inside.Picking.{Picks, tookOf}
 use Rattle.scan.specs.declared.Pick.{Pick}
 use Rattle.scan.specs.declared.Pick.the-variants as pick
 use Rattle.scan.proofs.ChoiceLaws.{merge, nearer, merge-step}
 
-module _ (s : List ℕ) (k : ℕ) (line : Line) (t : Transition) (h : Holds s k line t) (active word clock : ℕ) where
-  -- a line of another source
-  pub can-other : (line .source ≡ active → ⊥) → false ≡ can active word clock t
+module _ (s : List ℕ) (k : ℕ) (arrow : Arrow) (t : Transition) (h : Holds s k arrow t) (active word clock : ℕ) where
+  -- an arrow of another source
+  pub can-other : (arrow .source ≡ active → ⊥) → false ≡ can active word clock t
   unfolding can
-  can-other n = sym (rw (← h .source, ne-eqb (line .source) active n) refl)
+  can-other n = sym (rw (← h .source, ne-eqb (arrow .source) active n) refl)
 
   -- its condition was read before, so it is not refused now
-  pub cond-there : {A : Type 0} (r : Refusal) → forget word (conditionAt s k (line .cond)) ≡ Bad r → A
-  cond-there r e = ok-no (sym (h .there) ∙ forget-bad word (conditionAt s k (line .cond)) r e)
+  pub cond-there : {A : Type 0} (r : Refusal) → forget word (conditionAt s k (arrow .cond)) ≡ Bad r → A
+  cond-there r e = ok-no (sym (h .there) ∙ forget-bad word (conditionAt s k (arrow .cond)) r e)
 
   -- its condition's value, and its wait
-  pub can-is : (c : Cursor) (f : Facts) → line .source ≡ active → forget word (conditionAt s k (line .cond)) ≡ Next c f
-      → f .value && leb (line .wait) clock ≡ can active word clock t
+  pub can-is : (c : Cursor) (f : Facts) → arrow .source ≡ active → forget word (conditionAt s k (arrow .cond)) ≡ Next c f
+      → f .value && leb (arrow .wait) clock ≡ can active word clock t
   unfolding can
   can-is c f n e =
-      let x = forget-next word (conditionAt s k (line .cond)) c f e in
+      let x = forget-next word (conditionAt s k (arrow .cond)) c f e in
       let same : x .0 ≡ counted (t .condition) (h .nodes) = ok-is (sym (x .1) ∙ h .there) in
       let v : f .value ≡ eval word (t .condition) = ap (λ (y : Facts). y .value) (x .2) ∙ ap (λ (y : Counted). eval word (y .tree)) same in
       rw (v, h .wait, eq-eqb (t .source) active (sym (h .source) ∙ n)) refl
@@ -51,12 +51,12 @@ abbrev pub Passed : ℕ → ℕ → ℕ → List Transition → ℕ → Pick →
 Passed active word clock ts i p =
     (ch : Choice) × Picks p ch × (merge ch (best active word clock (drop i ts)) ≡ best active word clock ts)
 
-picks-near : (p : Pick) (ch : Choice) (line : Line) (t : Transition) → line .priority ≡ t .priority → line .destination ≡ t .destination → Picks p ch
-    → Picks (tookOf p line) (nearer ch t)
-picks-near pick.Nothing none line t e d h = (e, d)
-picks-near pick.Nothing (some u) line t e d h = absurd h
-picks-near (pick.Best a b) none line t e d h = absurd h
-picks-near (pick.Best a b) (some u) line t e d h = rw (h .0, e, d) (go (leb (u .priority) (t .priority)))
+picks-near : (p : Pick) (ch : Choice) (arrow : Arrow) (t : Transition) → arrow .priority ≡ t .priority → arrow .destination ≡ t .destination → Picks p ch
+    → Picks (tookOf p arrow) (nearer ch t)
+picks-near pick.Nothing none arrow t e d h = (e, d)
+picks-near pick.Nothing (some u) arrow t e d h = absurd h
+picks-near (pick.Best a b) none arrow t e d h = absurd h
+picks-near (pick.Best a b) (some u) arrow t e d h = rw (h .0, e, d) (go (leb (u .priority) (t .priority)))
   where
     go : (x : Bool) → Picks (cond x (pick.Best (u .priority) b) (pick.Best (t .priority) (t .destination))) (cond x (some u) (some t))
     go true = (refl, h .1)
@@ -74,9 +74,9 @@ module _ (active word clock : ℕ) (ts : List Transition) where
         ∙ ap (λ (us : List Transition). merge (h .0) (best active word clock us)) (rw (add-one, drop-cons ts i noTransition l) refl)
         ∙ h .2
 
-    pub passed-fires : (line : Line) → line .priority ≡ getD ts i noTransition .priority → line .destination ≡ getD ts i noTransition .destination
-        → can active word clock (getD ts i noTransition) ≡ true → Passed active word clock ts (i + 1) (tookOf p line)
-    passed-fires line e d f = (nearer (h .0) (getD ts i noTransition), picks-near p (h .0) line (getD ts i noTransition) e d (h .1), rw f at step)
+    pub passed-fires : (arrow : Arrow) → arrow .priority ≡ getD ts i noTransition .priority → arrow .destination ≡ getD ts i noTransition .destination
+        → can active word clock (getD ts i noTransition) ≡ true → Passed active word clock ts (i + 1) (tookOf p arrow)
+    passed-fires arrow e d f = (nearer (h .0) (getD ts i noTransition), picks-near p (h .0) arrow (getD ts i noTransition) e d (h .1), rw f at step)
 
     pub passed-stays : can active word clock (getD ts i noTransition) ≡ false → Passed active word clock ts (i + 1) p
     passed-stays f = (h .0, h .1, rw f at step)

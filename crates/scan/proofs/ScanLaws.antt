@@ -11,7 +11,7 @@ use Rattle.answer.specs.declared.Refusal.the-variants.{NoState}
 use Rattle.answer.specs.declared.Checked.the-variants.{Refused}
 use Rattle.bits.specs.Word.{wordOf}
 use Rattle.reader.specs.Sheet.{Transition, rowOf, transitionOf}
-use Rattle.reader.specs.inside.Packing.{lineAt}
+use Rattle.reader.specs.inside.Packing.{arrowAt}
 use Rattle.reader.specs.inside.Decoding.{Holds}
 use Rattle.sheet.specs.Judging.{checkSheet}
 use Rattle.sheet.specs.inside.Opening.{Good}
@@ -36,7 +36,7 @@ pub cold-refused : (s : List ℕ) (why : Refusal) → checkSheet s ≡ Refused w
 unfolding coldScan
 cold-refused s why e = with-refused s why (refused zeros) _ e
 
-module _ (s : List ℕ) (o : Opened) (rows lines : List ℕ) (g : Good s o rows lines) where
+module _ (s : List ℕ) (o : Opened) (rows arrows : List ℕ) (g : Good s o rows arrows) where
   -- an accepted sheet, and a state that it has or has not
   pub scan-accepted : (q : State) (word elapsed : ℕ) → q .state < g .sheet .states → scanSheet s q word elapsed ≡ accepted (scanOf (g .sheet) q word elapsed)
   unfolding scanSheet
@@ -84,11 +84,11 @@ module _ (s : List ℕ) (o : Opened) (rows lines : List ℕ) (g : Good s o rows 
       → movedOf rows q clock p ≡ after (g .sheet) q clock (best (q .state) word clock (g .sheet .transitions))
   moved-is q word clock p h = moved-by _ rows q clock p _ h (chosen (q .state) word clock) (g .copy .row)
 
-  -- each line of the copy holds its transition
-  pub lines-hold : (i : ℕ) → i < o .decoded .transitions → Holds s (o .decoded .inputs) (lineAt lines i) (transitionOf (g .sheet) i)
-  lines-hold i l =
-      subst (λ (k : ℕ). Holds s k (lineAt lines i) (transitionOf (g .sheet) i)) (sym (g .copy .inputs))
-      (g .copy .line i (omega (arith, g .copy .transitions)))
+  -- each arrow of the copy holds its transition
+  pub arrows-hold : (i : ℕ) → i < o .decoded .transitions → Holds s (o .decoded .inputs) (arrowAt arrows i) (transitionOf (g .sheet) i)
+  arrows-hold i l =
+      subst (λ (k : ℕ). Holds s k (arrowAt arrows i) (transitionOf (g .sheet) i)) (sym (g .copy .inputs))
+      (g .copy .arrow i (omega (arith, g .copy .transitions)))
 
   -- the record that the code starts with is the cold one
   pub cold-is : coldScan s ≡ accepted (stateWith 0 (getD rows 0 0) 0)

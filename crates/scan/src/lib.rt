@@ -3,7 +3,7 @@ use answer::Checked;
 use answer::Refusal;
 use bits::Cursor;
 use condition::CondRead;
-use reader::Line;
+use reader::Arrow;
 use sheet::Opened;
 ghost use mathlib.Core.Path.{_≡_};
 ghost use mathlib.Core.List.{List};
@@ -11,7 +11,7 @@ ghost use Prim.Native.Nat.{ℕ, _≤_, _<_};
 ghost use lib.ListN.{length, getD};
 ghost use Rattle.condition.specs.inside.Reach.{condReach};
 ghost use Rattle.reader.specs.Sheet.{Transition, noTransition};
-ghost use Rattle.reader.specs.inside.Packing.{lineAt};
+ghost use Rattle.reader.specs.inside.Packing.{arrowAt};
 ghost use Rattle.reader.specs.inside.Decoding.{Holds};
 ghost use Rattle.sheet.specs.inside.Opening.{Opens};
 ghost use Rattle.scan.specs.Scan.{can, best, stateWith, scannedWith, scanSheet, Scans, ColdScans};
@@ -56,47 +56,55 @@ pub enum Pick {
     Best(u8, u8),
 }
 
-// Whether the line's transition can fire: its condition is judged straight from the sheet's bits, and only if its source is the active state.
-fn can_fire(s: &[u8], line: Line, k: u32, active: u8, word: u32, clock: u32) -> bool
-    requires { ⌜ line .cond < condReach ⌝ }
-    ensures { λ r. ⌜ ((t : Transition) → Holds (now (s .entry)) k line t → r ≡ can active word clock t) ⌝ }
+// Whether the arrow's transition can fire: its condition is judged straight from the sheet's bits, and only if its source is the active state.
+fn can_fire(s: &[u8], arrow: Arrow, k: u32, active: u8, word: u32, clock: u32) -> bool
+    requires { ⌜ arrow .cond < condReach ⌝ }
+    ensures { λ r. ⌜ ((t : Transition) → Holds (now (s .entry)) k arrow t → r ≡ can active word clock t) ⌝ }
 {
-    if line.source != active {
+    if arrow.source != active {
         return false;
     }
-    let c = Cursor { at: line.cond };
+    let c = Cursor { at: arrow.cond };
     let a = condition::read_condition(s, c, k, 8, 0, word);
     let CondRead::Next(_, f) = a else {
         return false;
     };
-    f.value & (line.wait <= clock)
+    f.value & (arrow.wait <= clock)
 }
 
 // The one with the smaller priority number; the earlier where they are equal.
-fn took(p: Pick, line: Line) -> Pick
-    ensures { λ r. ⌜ r ≡ tookOf p line ⌝ }
+fn took(p: Pick, arrow: Arrow) -> Pick
+    ensures { λ r. ⌜ r ≡ tookOf p arrow ⌝ }
 {
     match p {
-        Pick::Nothing => Pick::Best(line.priority, line.destination),
-        Pick::Best(priority, _) => if priority <= line.priority {
+        Pick::Nothing => Pick::Best(arrow.priority, arrow.destination),
+        Pick::Best(priority, _) => if priority <= arrow.priority {
             p
         } else {
-            Pick::Best(line.priority, line.destination)
+            Pick::Best(arrow.priority, arrow.destination)
         },
     }
 }
 
 // Of the m transitions, the one that fires.
-fn choose(s: &[u8], lines: &[u64; 128], m: usize, k: u32, active: u8, word: u32, clock: u32) -> Pick
-    requires { ⌜ (m ≤ 128) × ((i : ℕ) → i < m → lineAt (now lines) i .cond < condReach) ⌝ }
-    ensures { λ r. ⌜ ((ts : List Transition) → length ts ≡ m → ((i : ℕ) → i < m → Holds (now (s .entry)) k (lineAt (now (lines .entry)) i) (getD ts i noTransition)) → Picks r (best active word clock ts)) ⌝ }
+fn choose(
+    s: &[u8],
+    arrows: &[u64; 128],
+    m: usize,
+    k: u32,
+    active: u8,
+    word: u32,
+    clock: u32,
+) -> Pick
+    requires { ⌜ (m ≤ 128) × ((i : ℕ) → i < m → arrowAt (now arrows) i .cond < condReach) ⌝ }
+    ensures { λ r. ⌜ ((ts : List Transition) → length ts ≡ m → ((i : ℕ) → i < m → Holds (now (s .entry)) k (arrowAt (now (arrows .entry)) i) (getD ts i noTransition)) → Picks r (best active word clock ts)) ⌝ }
 {
     let mut best = Pick::Nothing;
     let mut i: usize = 0;
     while i < m {
-        let line = reader::unpacked(lines[i]);
-        if can_fire(s, line, k, active, word, clock) {
-            best = took(best, line);
+        let arrow = reader::unpacked(arrows[i]);
+        if can_fire(s, arrow, k, active, word, clock) {
+            best = took(best, arrow);
         }
         i += 1;
     }
@@ -122,12 +130,12 @@ fn scan_opened(
     sheet: &[u8],
     o: Opened,
     rows: &[u16; 32],
-    lines: &[u64; 128],
+    arrows: &[u64; 128],
     record: State,
     inputs: u16,
     elapsed: u32,
 ) -> Scanned
-    requires { ⌜ Opens (now sheet) o (now rows) (now lines) ⌝ }
+    requires { ⌜ Opens (now sheet) o (now rows) (now arrows) ⌝ }
     ensures { λ r. ⌜ r ≡ scanSheet (now (sheet .entry)) «record» inputs elapsed ⌝ }
 {
     let verdict = o.verdict;
@@ -142,7 +150,7 @@ fn scan_opened(
             let clock = clock::bring_forward(record.clock, elapsed);
             let p = choose(
                 sheet,
-                lines,
+                arrows,
                 d.transitions,
                 d.inputs,
                 active,
@@ -159,9 +167,9 @@ pub fn scan(sheet: &[u8], record: State, inputs: u16, elapsed: u32) -> Scanned
     ensures { λ r. ⌜ Scans (now (sheet .entry)) «record» inputs elapsed r ⌝ }
 {
     let mut rows = [0u16; 32];
-    let mut lines = [0u64; 128];
-    let o = sheet::open_sheet(sheet, &mut rows, &mut lines);
-    scan_opened(sheet, o, &rows, &lines, record, inputs, elapsed)
+    let mut arrows = [0u64; 128];
+    let o = sheet::open_sheet(sheet, &mut rows, &mut arrows);
+    scan_opened(sheet, o, &rows, &arrows, record, inputs, elapsed)
 }
 
 // The reference's cold start, on any byte string.
@@ -169,8 +177,8 @@ pub fn cold_scan(sheet: &[u8]) -> Scanned
     ensures { λ r. ⌜ ColdScans (now (sheet .entry)) r ⌝ }
 {
     let mut rows = [0u16; 32];
-    let mut lines = [0u64; 128];
-    let o = sheet::open_sheet(sheet, &mut rows, &mut lines);
+    let mut arrows = [0u64; 128];
+    let o = sheet::open_sheet(sheet, &mut rows, &mut arrows);
     let verdict = o.verdict;
     match verdict {
         Checked::Refused(why) => scanned_with(Checked::Refused(why), state_with(0, 0, 0)),

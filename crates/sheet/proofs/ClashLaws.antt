@@ -14,8 +14,8 @@ use lib.Seq.{getD-set-same, getD-set-other}
 use Rattle.answer.specs.Lowest.{anyBelow, firstBelow}
 use Rattle.answer.specs.declared.Found.the-variants.{At, Nothing}
 use Rattle.answer.proofs.Laws.{any-more, any-hit, any-same, first-more, first-hit, first-same}
-use Rattle.reader.specs.inside.Packing.{unpack, lineAt}
-use Rattle.sheet.specs.inside.Lines.{besides, clashLines, clashBelow, firstClash, keyOf, Keys, alikeBelow, firstAlike}
+use Rattle.reader.specs.inside.Packing.{unpack, arrowAt}
+use Rattle.sheet.specs.inside.Arrows.{besides, clashArrows, clashBelow, firstClash, keyOf, Keys, alikeBelow, firstAlike}
 use Rattle.sheet.specs.declared.Clash.{Clash}
 use Rattle.sheet.specs.declared.Clash.the-variants as clash
 use Rattle.sheet.proofs.SearchLaws.{search-end}
@@ -25,7 +25,7 @@ module _ (keys : List ℕ) where
   unfolding firstAlike firstBelow
   clash-start = refl
 
-  -- no line before `earlier` has the key of `later`, and `earlier` is not past it
+  -- no arrow before `earlier` has the key of `later`, and `earlier` is not past it
   abbrev pub Apart : ℕ → ℕ → Type 0
   Apart later earlier = (earlier ≤ later) × (alikeBelow keys later earlier ≡ false)
 
@@ -73,20 +73,20 @@ unfolding unpack
 small clash.Pair w = omega arith
 small clash.Rank w = omega arith
 
-keys-same : (c : Clash) (v w : ℕ) → eqb (keyOf c (unpack v)) (keyOf c (unpack w)) ≡ clashLines c (unpack v) (unpack w)
+keys-same : (c : Clash) (v w : ℕ) → eqb (keyOf c (unpack v)) (keyOf c (unpack w)) ≡ clashArrows c (unpack v) (unpack w)
 keys-same c v w = key-same (unpack v .source) (besides c (unpack v)) (unpack w .source) (besides c (unpack w)) (small c v) (small c w)
 
-module _ (c : Clash) (lines : List ℕ) where
-  pub keys-more : (keys : List ℕ) (i : ℕ) → i < length keys → Keys c lines i keys → Keys c lines (i + 1) (set keys i (keyOf c (lineAt lines i)))
+module _ (c : Clash) (arrows : List ℕ) where
+  pub keys-more : (keys : List ℕ) (i : ℕ) → i < length keys → Keys c arrows i keys → Keys c arrows (i + 1) (set keys i (keyOf c (arrowAt arrows i)))
   keys-more keys i l f j h =
-      ⊎-elim (λ (q : j ≡ i). rw q (getD-set-same keys i (keyOf c (lineAt lines i)) 0 l))
-      (λ (q : j < i). let n : j ≢ i = (λ z. omega arith) in getD-set-other keys i j (keyOf c (lineAt lines i)) 0 n ∙ f j q)
+      ⊎-elim (λ (q : j ≡ i). rw q (getD-set-same keys i (keyOf c (arrowAt arrows i)) 0 l))
+      (λ (q : j < i). let n : j ≢ i = (λ z. omega arith) in getD-set-other keys i j (keyOf c (arrowAt arrows i)) 0 n ∙ f j q)
       (eq-or-lt-of-le (le-of-suc-le-suc (rw add-one at h)))
 
   -- so the search goes by the keys
-  pub by-keys : (m : ℕ) (keys : List ℕ) → Keys c lines m keys → firstAlike keys m ≡ firstClash c lines m
+  pub by-keys : (m : ℕ) (keys : List ℕ) → Keys c arrows m keys → firstAlike keys m ≡ firstClash c arrows m
   unfolding firstAlike firstClash
   by-keys m keys h =
-      first-same (λ j. alikeBelow keys j j) (λ j. clashBelow c lines j j) m
-      λ j l. any-same (λ i. eqb (getD keys i 0) (getD keys j 0)) (λ i. clashLines c (lineAt lines i) (lineAt lines j)) j
-      λ i b. rw (h i (omega arith), h j l) (keys-same c (getD lines i 0) (getD lines j 0))
+      first-same (λ j. alikeBelow keys j j) (λ j. clashBelow c arrows j j) m
+      λ j l. any-same (λ i. eqb (getD keys i 0) (getD keys j 0)) (λ i. clashArrows c (arrowAt arrows i) (arrowAt arrows j)) j
+      λ i b. rw (h i (omega arith), h j l) (keys-same c (getD arrows i 0) (getD arrows j 0))

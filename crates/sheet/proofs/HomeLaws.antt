@@ -13,8 +13,8 @@ use Rattle.answer.proofs.BoolLaws.{and-true as both}
 use Rattle.answer.proofs.Laws.{first-same}
 use Rattle.bits.specs.Word.{getBit, putBit}
 use Rattle.bits.proofs.WordLaws.{bit-zero}
-use Rattle.reader.specs.inside.Packing.{lineAt}
-use Rattle.sheet.specs.inside.Lines.{homeLine, hasHome, Homes, lacksHomeLine, lacksBit}
+use Rattle.reader.specs.inside.Packing.{arrowAt}
+use Rattle.sheet.specs.inside.Arrows.{homeArrow, hasHome, Homes, lacksHomeArrow, lacksBit}
 
 -- the test that lets a source have a bit
 pub source-fits : (a : Bool) (source : ℕ) → a && ltb source 32 ≡ true → source < 32
@@ -38,32 +38,32 @@ no-home true source s l e =
     rw (ne-eqb source s (λ q. omega arith))
 no-home false source s l e = and-false (eqb source s)
 
-module _ (lines : List ℕ) where
-  pub homes-start : Homes lines 0 0
+module _ (arrows : List ℕ) where
+  pub homes-start : Homes arrows 0 0
   unfolding hasHome anyBelow
   homes-start s l = bit-zero s
 
-  more : (i s : ℕ) → hasHome lines (i + 1) s ≡ hasHome lines i s || homeLine s (lineAt lines i)
+  more : (i s : ℕ) → hasHome arrows (i + 1) s ≡ hasHome arrows i s || homeArrow s (arrowAt arrows i)
   unfolding hasHome anyBelow
   more i s = rw add-one
 
   -- a transition to 0 sets the bit of its source
-  pub homes-set : (i w : ℕ) → Homes lines i w → eqb (lineAt lines i .destination) 0 && ltb (lineAt lines i .source) 32 ≡ true
-      → Homes lines (i + 1) (putBit w (lineAt lines i .source) true)
+  pub homes-set : (i w : ℕ) → Homes arrows i w → eqb (arrowAt arrows i .destination) 0 && ltb (arrowAt arrows i .source) 32 ≡ true
+      → Homes arrows (i + 1) (putBit w (arrowAt arrows i .source) true)
   homes-set i w h e s l =
-      let t = lineAt lines i in
+      let t = arrowAt arrows i in
       rw (bit-set w (t .source) s, h s l, more i s, both (eqb (t .destination) 0) (ltb (t .source) 32) e .0, and-true (eqb (t .source) s))
 
   -- another one changes nothing; a source of 32 or more is no state
-  pub homes-keep : (i w : ℕ) → Homes lines i w → eqb (lineAt lines i .destination) 0 && ltb (lineAt lines i .source) 32 ≡ false
-      → Homes lines (i + 1) w
+  pub homes-keep : (i w : ℕ) → Homes arrows i w → eqb (arrowAt arrows i .destination) 0 && ltb (arrowAt arrows i .source) 32 ≡ false
+      → Homes arrows (i + 1) w
   homes-keep i w h e s l =
-      let t = lineAt lines i in
-      rw (more i s, no-home (eqb (t .destination) 0) (t .source) s l e, h s l) (sym (or-false (hasHome lines i s)))
+      let t = arrowAt arrows i in
+      rw (more i s, no-home (eqb (t .destination) 0) (t .source) s l e, h s l) (sym (or-false (hasHome arrows i s)))
 
   -- so the search goes by the word
-  pub by-word : (m word n : ℕ) → Homes lines m word → n ≤ 32 → firstBelow (lacksBit word) n ≡ firstBelow (lacksHomeLine lines m) n
-  by-word m word n h l = first-same (lacksBit word) (lacksHomeLine lines m) n λ s b. rw (h s (omega arith))
+  pub by-word : (m word n : ℕ) → Homes arrows m word → n ≤ 32 → firstBelow (lacksBit word) n ≡ firstBelow (lacksHomeArrow arrows m) n
+  by-word m word n h l = first-same (lacksBit word) (lacksHomeArrow arrows m) n λ s b. rw (h s (omega arith))
 
 -- from state 1 on the bit decides
 pub bit-decides : (word s : ℕ) → 1 ≤ s → lacksBit word s ≡ not (getBit word s)

@@ -8,7 +8,7 @@ use lib.ListN.{getD}
 use lib.Dec.{eqb}
 use Rattle.bits.specs.Word.{getBit, wordOf}
 use Rattle.sheet.specs.Judging.{differs}
-use Rattle.sheet.specs.inside.Lines.{activityRow}
+use Rattle.sheet.specs.inside.Arrows.{activityRow}
 
 -- bit 0 of the word is output 0
 pub bit-first : (row : List Bool) → getBit (wordOf row) 0 ≡ getD row 0 false

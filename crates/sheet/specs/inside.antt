@@ -1,3 +1,3 @@
 -- How the code holds things: for private contracts only, not needed to read the promises.
-pub mod Lines
+pub mod Arrows
 pub mod Opening

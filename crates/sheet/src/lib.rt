@@ -2,9 +2,9 @@
 use answer::Checked;
 use answer::Found;
 use answer::Refusal;
+use reader::Arrow;
 use reader::Decoded;
 use reader::How;
-use reader::Line;
 ghost use mathlib.Core.Path.{_≡_};
 ghost use mathlib.Core.List.{List};
 ghost use Prim.Native.Nat.{ℕ, _≤_};
@@ -13,7 +13,7 @@ ghost use Rattle.answer.specs.Lowest.{firstBelow};
 ghost use Rattle.reader.specs.Sheet.{Sheet};
 ghost use Rattle.reader.specs.inside.Decoding.{Copy};
 ghost use Rattle.sheet.specs.Judging.{judge, ChecksSheet};
-ghost use Rattle.sheet.specs.inside.Lines.{breaksLine, firstBreak, keyOf, Keys, firstAlike, Homes, lacksHomeLine, activityRow, judgeForms};
+ghost use Rattle.sheet.specs.inside.Arrows.{breaksArrow, firstBreak, keyOf, Keys, firstAlike, Homes, lacksHomeArrow, activityRow, judgeForms};
 ghost use Rattle.sheet.specs.inside.Opening.{Opens};
 
 // What a sheet's bytes are found to be: the verdict, and the decoded copy where it accepts.
@@ -37,8 +37,8 @@ enum Clash {
 
 // 7 LOOP: back to its own source. 11 HOME-FORM: to 0, and not priority 0, wait 0 and NOT input 0.
 // 12 GATE: from 0, and its condition has neither form; no value of the condition is asked.
-fn breaks(rule: Rule, t: Line) -> bool
-    ensures { λ r. ⌜ r ≡ breaksLine rule t ⌝ }
+fn breaks(rule: Rule, t: Arrow) -> bool
+    ensures { λ r. ⌜ r ≡ breaksArrow rule t ⌝ }
 {
     match rule {
         Rule::Loop => t.source == t.destination,
@@ -50,13 +50,13 @@ fn breaks(rule: Rule, t: Line) -> bool
 }
 
 // The first transition that breaks the rule.
-fn first_line(lines: &[u64; 128], m: usize, rule: Rule) -> Found
+fn first_arrow(arrows: &[u64; 128], m: usize, rule: Rule) -> Found
     requires { ⌜ m ≤ 128 ⌝ }
-    ensures { λ r. ⌜ r ≡ firstBreak rule (now (lines .entry)) m ⌝ }
+    ensures { λ r. ⌜ r ≡ firstBreak rule (now (arrows .entry)) m ⌝ }
 {
     let mut i: usize = 0;
     while i < m {
-        let t = reader::unpacked(lines[i]);
+        let t = reader::unpacked(arrows[i]);
         if breaks(rule, t) {
             return Found::At(i);
         }
@@ -66,7 +66,7 @@ fn first_line(lines: &[u64; 128], m: usize, rule: Rule) -> Found
 }
 
 // A transition's key: two of them are equal where the sources are and, for PAIR the destinations, for RANK the priorities.
-fn key(clash: Clash, t: Line) -> u16
+fn key(clash: Clash, t: Arrow) -> u16
     ensures { λ r. ⌜ r ≡ keyOf clash t ⌝ }
 {
     let source = (t.source as u16) * 256;
@@ -77,14 +77,14 @@ fn key(clash: Clash, t: Line) -> u16
 }
 
 // The keys of the first m transitions.
-fn keys_of(lines: &[u64; 128], m: usize, clash: Clash) -> [u16; 128]
+fn keys_of(arrows: &[u64; 128], m: usize, clash: Clash) -> [u16; 128]
     requires { ⌜ m ≤ 128 ⌝ }
-    ensures { λ r. ⌜ Keys clash (now (lines .entry)) m r ⌝ }
+    ensures { λ r. ⌜ Keys clash (now (arrows .entry)) m r ⌝ }
 {
     let mut keys = [0u16; 128];
     let mut i: usize = 0;
     while i < m {
-        let t = reader::unpacked(lines[i]);
+        let t = reader::unpacked(arrows[i]);
         keys[i] = key(clash, t);
         i += 1;
     }
@@ -115,14 +115,14 @@ fn first_clash(keys: &[u16; 128], m: usize) -> Found
 }
 
 // The word whose bit s says that state s has a transition to 0; a sheet names no state above 31.
-fn homes(lines: &[u64; 128], m: usize) -> u32
+fn homes(arrows: &[u64; 128], m: usize) -> u32
     requires { ⌜ m ≤ 128 ⌝ }
-    ensures { λ r. ⌜ Homes (now (lines .entry)) m r ⌝ }
+    ensures { λ r. ⌜ Homes (now (arrows .entry)) m r ⌝ }
 {
     let mut word: u32 = 0;
     let mut i: usize = 0;
     while i < m {
-        let t = reader::unpacked(lines[i]);
+        let t = reader::unpacked(arrows[i]);
         if (t.destination == 0) & (t.source < 32) {
             word = bits::set_bit(word, t.source as u32);
         }
@@ -132,11 +132,11 @@ fn homes(lines: &[u64; 128], m: usize) -> u32
 }
 
 // 10 NO-HOME: the first state other than 0 without a transition to 0.
-fn first_no_home(lines: &[u64; 128], m: usize, n: usize) -> Found
+fn first_no_home(arrows: &[u64; 128], m: usize, n: usize) -> Found
     requires { ⌜ (m ≤ 128) × (n ≤ 32) ⌝ }
-    ensures { λ r. ⌜ r ≡ firstBelow (lacksHomeLine (now (lines .entry)) m) n ⌝ }
+    ensures { λ r. ⌜ r ≡ firstBelow (lacksHomeArrow (now (arrows .entry)) m) n ⌝ }
 {
-    let word = homes(lines, m);
+    let word = homes(arrows, m);
     let mut s: usize = 1;
     while s < n {
         if !bits::get_bit(word, s as u32) {
@@ -164,19 +164,19 @@ fn first_activity(rows: &[u16; 32], n: usize) -> Found
 }
 
 // The numbers 10 to 13, lowest first.
-fn judge_forms(lines: &[u64; 128], m: usize, rows: &[u16; 32], n: usize) -> Checked
+fn judge_forms(arrows: &[u64; 128], m: usize, rows: &[u16; 32], n: usize) -> Checked
     requires { ⌜ (m ≤ 128) × (n ≤ 32) ⌝ }
-    ensures { λ r. ⌜ r ≡ judgeForms (now (lines .entry)) m (now (rows .entry)) n ⌝ }
+    ensures { λ r. ⌜ r ≡ judgeForms (now (arrows .entry)) m (now (rows .entry)) n ⌝ }
 {
-    let no_home = first_no_home(lines, m, n);
+    let no_home = first_no_home(arrows, m, n);
     if let Found::At(s) = no_home {
         return Checked::Refused(Refusal::NoHome(s));
     }
-    let home_form = first_line(lines, m, Rule::HomeForm);
+    let home_form = first_arrow(arrows, m, Rule::HomeForm);
     if let Found::At(i) = home_form {
         return Checked::Refused(Refusal::HomeForm(i));
     }
-    let gate = first_line(lines, m, Rule::Gate);
+    let gate = first_arrow(arrows, m, Rule::Gate);
     if let Found::At(i) = gate {
         return Checked::Refused(Refusal::Gate(i));
     }
@@ -187,34 +187,34 @@ fn judge_forms(lines: &[u64; 128], m: usize, rows: &[u16; 32], n: usize) -> Chec
 }
 
 // The numbers 7 to 13 of a sheet read to its end, the lowest first.
-fn judge_decoded(d: Decoded, rows: &[u16; 32], lines: &[u64; 128]) -> Checked
+fn judge_decoded(d: Decoded, rows: &[u16; 32], arrows: &[u64; 128]) -> Checked
     requires { ⌜ (d .transitions ≤ 128) × (d .states ≤ 32) ⌝ }
-    ensures { λ r. ⌜ ((s : List ℕ) (a : Sheet) → Copy s d (now (rows .entry)) (now (lines .entry)) a → r ≡ judge a) ⌝ }
+    ensures { λ r. ⌜ ((s : List ℕ) (a : Sheet) → Copy s d (now (rows .entry)) (now (arrows .entry)) a → r ≡ judge a) ⌝ }
 {
     let m = d.transitions;
-    let to_itself = first_line(lines, m, Rule::Loop);
+    let to_itself = first_arrow(arrows, m, Rule::Loop);
     if let Found::At(i) = to_itself {
         return Checked::Refused(Refusal::Loop(i));
     }
-    let pairs = keys_of(lines, m, Clash::Pair);
+    let pairs = keys_of(arrows, m, Clash::Pair);
     let pair = first_clash(&pairs, m);
     if let Found::At(i) = pair {
         return Checked::Refused(Refusal::Pair(i));
     }
-    let ranks = keys_of(lines, m, Clash::Rank);
+    let ranks = keys_of(arrows, m, Clash::Rank);
     let rank = first_clash(&ranks, m);
     if let Found::At(i) = rank {
         return Checked::Refused(Refusal::Rank(i));
     }
-    judge_forms(lines, m, rows, d.states as usize)
+    judge_forms(arrows, m, rows, d.states as usize)
 }
 
 // A sheet that is checked and decoded once, for the crates that go on with it.
-pub fn open_sheet(sheet: &[u8], rows: &mut [u16; 32], lines: &mut [u64; 128]) -> Opened
-    requires { ⌜ (length (now rows) ≡ 32) × (length (now lines) ≡ 128) ⌝ }
-    ensures { λ r. ⌜ Opens (now (sheet .entry)) r (now (rows .exit)) (now (lines .exit)) ⌝ }
+pub fn open_sheet(sheet: &[u8], rows: &mut [u16; 32], arrows: &mut [u64; 128]) -> Opened
+    requires { ⌜ (length (now rows) ≡ 32) × (length (now arrows) ≡ 128) ⌝ }
+    ensures { λ r. ⌜ Opens (now (sheet .entry)) r (now (rows .exit)) (now (arrows .exit)) ⌝ }
 {
-    let d = reader::read_sheet(sheet, rows, lines);
+    let d = reader::read_sheet(sheet, rows, arrows);
     let how = d.how;
     match how {
         How::Bad(why) => Opened {
@@ -222,7 +222,7 @@ pub fn open_sheet(sheet: &[u8], rows: &mut [u16; 32], lines: &mut [u64; 128]) ->
             decoded: d,
         },
         How::Done(_) => {
-            let verdict = judge_decoded(d, &*rows, &*lines);
+            let verdict = judge_decoded(d, &*rows, &*arrows);
             Opened {
                 verdict: verdict,
                 decoded: d,
@@ -236,7 +236,7 @@ pub fn check_sheet(sheet: &[u8]) -> Checked
     ensures { λ r. ⌜ ChecksSheet (now (sheet .entry)) r ⌝ }
 {
     let mut rows = [0u16; 32];
-    let mut lines = [0u64; 128];
-    let o = open_sheet(sheet, &mut rows, &mut lines);
+    let mut arrows = [0u64; 128];
+    let o = open_sheet(sheet, &mut rows, &mut arrows);
     o.verdict
 }

@@ -5,7 +5,7 @@ use native.Mathlib.Omega.{arith}
 use Rattle.bits.specs.Field.{fieldAt}
 use Rattle.bits.specs.declared.Got.the-variants as got
 use Rattle.bits.proofs.FieldLaws.{field-got}
-use Rattle.reader.proofs.RestLaws.{rest-none, rest-short, rest-bad, cond-start, line-fits, rest-line}
+use Rattle.reader.proofs.RestLaws.{rest-none, rest-short, rest-bad, cond-start, arrow-fits, rest-arrow}
 use Rattle.reader.proofs.read_rest.Statement.{statement}
 use Rattle.reader.proofs.read_rest.Tie as tie
 
@@ -73,7 +73,7 @@ packed-requires c κs =
     let g2 = d .before .g2 .given .0 in
     let x = c .before .a .given in
     let e = sym (c .before .before .before .read-condition .ensures) ∙ x .1 in
-    line-fits (a .s .now) (a .k) (a .source) (a .destination) (a .c .at) (g1 .0) (g1 .1 .0) (there1 b) (g2 .0) (g2 .1 .0) (there2 d) (x .0 .0) (x .0 .1 .0) e (omega arith) (omega arith) (omega arith)
+    arrow-fits (a .s .now) (a .k) (a .source) (a .destination) (a .c .at) (g1 .0) (g1 .1 .0) (there1 b) (g2 .0) (g2 .1 .0) (there2 d) (x .0 .0) (x .0 .1 .0) e (omega arith) (omega arith) (omega arith)
 
 returns-4 : tie.Need-returns-4
 returns-4 c =
@@ -84,8 +84,8 @@ returns-4 c =
     let g2 = d .before .g2 .given .0 in
     let x = c .before .before .a .given in
     let e = sym (c .before .before .before .before .read-condition .ensures) ∙ x .1 in
-    rest-line (a .s .now) (a .k) (a .source) (a .destination) (a .c .at) (g1 .0) (g1 .1 .0) (there1 b) (g2 .0) (g2 .1 .0) (there2 d) (x .0 .0) (x .0 .1 .0) e (omega arith) (omega arith) (omega arith)
-    (a .i) (c .packed .result) (a .lines .now) (c .packed .ensures)
+    rest-arrow (a .s .now) (a .k) (a .source) (a .destination) (a .c .at) (g1 .0) (g1 .1 .0) (there1 b) (g2 .0) (g2 .1 .0) (there2 d) (x .0 .0) (x .0 .1 .0) e (omega arith) (omega arith) (omega arith)
+    (a .i) (c .packed .result) (a .arrows .now) (c .packed .ensures)
 
 pub read-rest-spec : {M : Type 1} → statement M
 read-rest-spec =

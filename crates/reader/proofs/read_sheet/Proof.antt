@@ -11,7 +11,7 @@ use Rattle.bits.specs.Read.{ok, upto}
 use Rattle.bits.proofs.ReadLaws.{upto-length}
 use Rattle.reader.specs.Sheet.{Transition, noTransition}
 use Rattle.reader.specs.Reading.{readHeader, rowAt, transitionAt, readSheet}
-use Rattle.reader.specs.inside.Packing.{lineAt}
+use Rattle.reader.specs.inside.Packing.{arrowAt}
 use Rattle.reader.specs.inside.Decoding.{Holds}
 use Rattle.reader.specs.declared.Header.{Header}
 use Rattle.reader.proofs.Laws.{
@@ -22,8 +22,8 @@ use Rattle.reader.proofs.Laws.{
   rows-done,
   rows-bad,
   rows-next,
-  lines-done,
-  lines-bad,
+  arrows-done,
+  arrows-bad,
   transitions-next,
 }
 use Rattle.reader.proofs.read_sheet.Statement.{statement}
@@ -70,19 +70,19 @@ rows-end c =
     omega (arith, h .after)
 
 -- the transitions are read
-abbrev lines-now : tie.After-known-told3 → List ℕ
-lines-now c = c .before .before .before .read-transitions .last .1 .1 .1 .1 .1 .0
+abbrev arrows-now : tie.After-known-told3 → List ℕ
+arrows-now c = c .before .before .before .read-transitions .last .1 .1 .1 .1 .1 .0
 
-lines-are : (c : tie.After-known-told3)
+arrows-are : (c : tie.After-known-told3)
     → (ts : List Transition)
     × (upto (transitionAt (bytes (from1 (from2 c))) (header (from1 (from2 c)) .states) (header (from1 (from2 c)) .inputs)) (from2 c .before .how1 .given .0 .0 .at) (header (from1 (from2 c)) .transitions)
     ≡ ok ts (c .before .how2 .given .0 .0 .at))
-    × (length (lines-now c) ≡ 128)
-    × ((i : ℕ) → i < header (from1 (from2 c)) .transitions → Holds (bytes (from1 (from2 c))) (header (from1 (from2 c)) .inputs) (lineAt (lines-now c) i) (getD ts i noTransition))
-lines-are c =
+    × (length (arrows-now c) ≡ 128)
+    × ((i : ℕ) → i < header (from1 (from2 c)) .transitions → Holds (bytes (from1 (from2 c))) (header (from1 (from2 c)) .inputs) (arrowAt (arrows-now c) i) (getD ts i noTransition))
+arrows-are c =
     let b = from1 (from2 c) in
     let went = c .before .before .before .read-transitions in
-    lines-done (bytes b) (header b .inputs) _ (header b .transitions) (went .result) _ (c .before .how2 .given .0 .0) (went .ensures) (c .before .how2 .given .1)
+    arrows-done (bytes b) (header b .inputs) _ (header b .transitions) (went .result) _ (c .before .how2 .given .0 .0) (went .ensures) (c .before .how2 .given .1)
 
 returns : tie.Need-returns
 unfolding readSheet
@@ -115,14 +115,14 @@ returns-3 c =
     let told = c .before .enum-told3 .given in
     let went = c .before .before .before .read-transitions in
     let read = transitionAt (bytes b) (header b .states) (header b .inputs) in
-    let e = lines-bad (bytes b) (header b .inputs) (upto read (d .before .how1 .given .0 .0 .at) (header b .transitions)) (header b .transitions) (went .result) _ (told .0 .0) (went .ensures) (told .1) in
+    let e = arrows-bad (bytes b) (header b .inputs) (upto read (d .before .how1 .given .0 .0 .at) (header b .transitions)) (header b .transitions) (went .result) _ (told .0 .0) (went .ensures) (told .1) in
     rw (head-is b, rows-are d .1, e) (c .unread3 .ensures ∙ told .1)
 
 ends-here-requires : tie.Need-ends-here-requires
 ends-here-requires c κs =
     let d = from2 c in
     let b = from1 d in
-    let next = transitions-next (bytes b) (header b .states) (header b .inputs) (d .before .how1 .given .0 .0 .at) (header b .transitions) (headed b .transitions .1) (lines-are c .1) in
+    let next = transitions-next (bytes b) (header b .states) (header b .inputs) (d .before .how1 .given .0 .0 .at) (header b .transitions) (headed b .transitions .1) (arrows-are c .1) in
     omega (arith, rows-end d)
 
 cast-t23 : tie.Need-cast-t23
@@ -134,11 +134,11 @@ returns-4 c =
     let d = from2 (c .before .before) in
     let b = from1 d in
     let rows = rows-are d in
-    let lines = lines-are (c .before .before) in
+    let arrows = arrows-are (c .before .before) in
     let ended = sym (c .before .ends-here .ensures) ∙ c .if1 .taken in
     let read = transitionAt (bytes b) (header b .states) (header b .inputs) in
-    let m = upto-length read (d .before .how1 .given .0 .0 .at) (header b .transitions) (lines .1) in
-    rw (head-is b, rows .1, lines .1, ended) (
+    let m = upto-length read (d .before .how1 .given .0 .0 .at) (header b .transitions) (arrows .1) in
+    rw (head-is b, rows .1, arrows .1, ended) (
       refl,
       record {
         states = refl;
@@ -146,8 +146,8 @@ returns-4 c =
         outputs = refl;
         transitions = sym m;
         row = rows .2;
-        long = lines .2;
-        line = λ i l. lines .3 i (omega arith);
+        long = arrows .2;
+        arrow = λ i l. arrows .3 i (omega arith);
       },
     )
 
@@ -156,7 +156,7 @@ unfolding readSheet
 returns-5 c =
     let e = c .before .before .before in
     let ended = sym (c .before .before .ends-here .ensures) ∙ c .before .if1 .left in
-    rw (head-is (from1 (from2 e)), rows-are (from2 e) .1, lines-are e .1, ended) (c .unread4 .ensures)
+    rw (head-is (from1 (from2 e)), rows-are (from2 e) .1, arrows-are e .1, ended) (c .unread4 .ensures)
 
 pub read-sheet-spec : {M : Type 1} → statement M
 read-sheet-spec =

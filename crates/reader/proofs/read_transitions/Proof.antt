@@ -12,17 +12,17 @@ use Rattle.reader.specs.Reading.{transitionAt}
 use Rattle.reader.specs.inside.Decoding.{Holds}
 use Rattle.reader.specs.inside.Packing.{unpack}
 use Rattle.reader.proofs.FillLaws.{Filled, filled-more}
-use Rattle.reader.proofs.Laws.{line-got, line-bad, transition-next}
+use Rattle.reader.proofs.Laws.{arrow-got, arrow-bad, transition-next}
 use Rattle.reader.proofs.read_transitions.Statement.{statement}
 use Rattle.reader.proofs.read_transitions.Tie as tie
 
 abbrev Inv-loop : tie.InvT-loop
-Inv-loop s n k m lines₀ here₀ i₀ lines here i =
-    (length lines ≡ 128) × (i ≤ m) × (here .at ≤ 1000 + 227 * i) × (ts : List Transition) × (upto (transitionAt s n k) (here₀ .at) i ≡ ok ts (here .at))
-    × Filled (λ w t. Holds s k (unpack w) t) 0 noTransition lines ts i
+Inv-loop s n k m arrows₀ here₀ i₀ arrows here i =
+    (length arrows ≡ 128) × (i ≤ m) × (here .at ≤ 1000 + 227 * i) × (ts : List Transition) × (upto (transitionAt s n k) (here₀ .at) i ≡ ok ts (here .at))
+    × Filled (λ w t. Holds s k (unpack w) t) 0 noTransition arrows ts i
 
 abbrev μ-loop : tie.MeasureT-loop
-μ-loop s n k m lines₀ here₀ i₀ lines here i = m - i
+μ-loop s n k m arrows₀ here₀ i₀ arrows here i = m - i
 
 loop-holds : tie.Need-loop-holds Inv-loop μ-loop
 unfolding upto
@@ -36,11 +36,11 @@ loop-again c =
     let went = c .before .before .before .read-transition in
     let read = transitionAt (a .s .now) (a .n) (a .k) in
     let now = went .last .1 .1 .1 .1 .0 in
-    let x = line-got (a .s .now) (a .k) (read (l .here .at)) (l .i) (l .lines) (went .result) now (g .0 .0) (g .0 .1 .0) (went .ensures) (g .1) in
+    let x = arrow-got (a .s .now) (a .k) (read (l .here .at)) (l .i) (l .arrows) (went .result) now (g .0 .0) (g .0 .1 .0) (went .ensures) (g .1) in
     let many = upto-length read (a .c .at) (l .i) (l .inv .4) in
-    let more = filled-more (λ w t. Holds (a .s .now) (a .k) (unpack w) t) 0 noTransition (l .lines) (l .inv .3) (l .i) (x .1) (x .0)
+    let more = filled-more (λ w t. Holds (a .s .now) (a .k) (unpack w) t) 0 noTransition (l .arrows) (l .inv .3) (l .i) (x .1) (x .0)
     (omega arith) many (l .inv .5) (x .4) in (
-      ap length (x .3) ∙ length-set (l .lines) (l .i) (x .1) ∙ l .inv .0,
+      ap length (x .3) ∙ length-set (l .arrows) (l .i) (x .1) ∙ l .inv .0,
       omega arith,
       omega (arith, transition-next (a .s .now) (a .n) (a .k) (l .here .at) (x .2)),
       l .inv .3 ++ x .0 ∷ [],
@@ -55,7 +55,7 @@ returns c =
     let g = c .before .g2 .given in
     let went = c .before .before .before .read-transition in
     let read = transitionAt (a .s .now) (a .n) (a .k) in
-    let x = line-bad (a .s .now) (a .k) (read (l .here .at)) (l .i) (l .lines) (went .result) (went .last .1 .1 .1 .1 .0) (g .0 .0) (went .ensures) (g .1) in
+    let x = arrow-bad (a .s .now) (a .k) (read (l .here .at)) (l .i) (l .arrows) (went .result) (went .last .1 .1 .1 .1 .0) (g .0 .0) (went .ensures) (g .1) in
     rw (upto-bad read (a .c .at) (l .i) (a .m) (omega arith) (l .inv .4) x) refl
 
 returns-2 : tie.Need-returns-2 Inv-loop μ-loop

@@ -17,8 +17,8 @@ use Rattle.condition.specs.declared.CondRead.{CondRead}
 use Rattle.condition.specs.declared.CondRead.the-variants as condread
 use Rattle.reader.specs.Sheet.{Transition, Sheet, count, transitionOf, rowOf, noTransition}
 use Rattle.reader.specs.declared.Header.{Header}
-use Rattle.reader.specs.declared.Line.{Line}
-use Rattle.reader.specs.inside.Packing.{unpack, lineAt}
+use Rattle.reader.specs.declared.Arrow.{Arrow}
+use Rattle.reader.specs.inside.Packing.{unpack, arrowAt}
 use Rattle.reader.specs.declared.Decoded.{Decoded}
 use Rattle.reader.specs.declared.How.{How}
 use Rattle.reader.specs.declared.How.the-variants as how
@@ -60,46 +60,46 @@ abbrev pub forgetNames : Ans Names → NamesRead
 forgetNames (ok x next) = namesread.Names (x .source) (x .destination) (record { at = next })
 forgetNames (no why) = namesread.Bad why
 
--- the line holds the transition, whose condition stands at bit `cond`
-pub record Holds (s : List ℕ) (k : ℕ) (line : Line) (t : Transition) : Type 0 where
-  pub source : line .source ≡ t .source
-  pub destination : line .destination ≡ t .destination
-  pub priority : line .priority ≡ t .priority
-  pub wait : line .wait ≡ t .wait
-  pub form : line .form ≡ formOf (t .condition)
-  pub words : line .words ≡ wordCount (t .condition)
-  pub near : line .cond < condReach
+-- the arrow holds the transition, whose condition stands at bit `cond`
+pub record Holds (s : List ℕ) (k : ℕ) (arrow : Arrow) (t : Transition) : Type 0 where
+  pub source : arrow .source ≡ t .source
+  pub destination : arrow .destination ≡ t .destination
+  pub priority : arrow .priority ≡ t .priority
+  pub wait : arrow .wait ≡ t .wait
+  pub form : arrow .form ≡ formOf (t .condition)
+  pub words : arrow .words ≡ wordCount (t .condition)
+  pub near : arrow .cond < condReach
   pub nodes : ℕ
   pub next : ℕ
-  pub there : conditionAt s k (line .cond) ≡ ok (counted (t .condition) nodes) next
+  pub there : conditionAt s k (arrow .cond) ≡ ok (counted (t .condition) nodes) next
 
 -- the code's answer: the cursor after the transition, which entry i of the array keeps; or the refusal
-abbrev pub LineIs : List ℕ → ℕ → Ans Transition → ℕ → List ℕ → CondRead → List ℕ → Type 0
-LineIs s k (ok t next) i before r after =
+abbrev pub ArrowIs : List ℕ → ℕ → Ans Transition → ℕ → List ℕ → CondRead → List ℕ → Type 0
+ArrowIs s k (ok t next) i before r after =
     (word : ℕ) × (f : Facts) × (r ≡ condread.Next (record { at = next }) f) × (after ≡ set before i word) × Holds s k (unpack word) t
-LineIs s k (no why) i before r after = r ≡ condread.Bad why
+ArrowIs s k (no why) i before r after = r ≡ condread.Bad why
 
--- the code's rows and lines are those of the lists
+-- the code's rows and arrows are those of the lists
 abbrev pub HoldsRows : Ans (List (List Bool)) → ℕ → How → List ℕ → Type 0
 HoldsRows (ok xs next) n r rows = (r ≡ how.Done (record { at = next })) × ((i : ℕ) → i < n → getD rows i 0 ≡ wordOf (getD xs i []))
 HoldsRows (no why) n r rows = r ≡ how.Bad why
 
-abbrev pub HoldsLines : List ℕ → ℕ → Ans (List Transition) → ℕ → How → List ℕ → Type 0
-HoldsLines s k (ok ts next) m r lines =
-    (r ≡ how.Done (record { at = next })) × (length lines ≡ 128) × ((i : ℕ) → i < m → Holds s k (lineAt lines i) (getD ts i noTransition))
-HoldsLines s k (no why) m r lines = r ≡ how.Bad why
+abbrev pub HoldsArrows : List ℕ → ℕ → Ans (List Transition) → ℕ → How → List ℕ → Type 0
+HoldsArrows s k (ok ts next) m r arrows =
+    (r ≡ how.Done (record { at = next })) × (length arrows ≡ 128) × ((i : ℕ) → i < m → Holds s k (arrowAt arrows i) (getD ts i noTransition))
+HoldsArrows s k (no why) m r arrows = r ≡ how.Bad why
 
 -- the code's copy, with the arrays lent to it, is that sheet
-pub record Copy (s : List ℕ) (d : Decoded) (rows lines : List ℕ) (a : Sheet) : Type 0 where
+pub record Copy (s : List ℕ) (d : Decoded) (rows arrows : List ℕ) (a : Sheet) : Type 0 where
   pub states : d .states ≡ a .states
   pub inputs : d .inputs ≡ a .inputs
   pub outputs : d .outputs ≡ a .outputs
   pub transitions : d .transitions ≡ count a
   pub row : (i : ℕ) → i < a .states → getD rows i 0 ≡ wordOf (rowOf a i)
-  pub long : length lines ≡ 128
-  pub line : (i : ℕ) → i < count a → Holds s (a .inputs) (lineAt lines i) (transitionOf a i)
+  pub long : length arrows ≡ 128
+  pub arrow : (i : ℕ) → i < count a → Holds s (a .inputs) (arrowAt arrows i) (transitionOf a i)
 
 -- the code's answer is that of the reader
 abbrev pub Answers : List ℕ → Ans Sheet → Decoded → List ℕ → List ℕ → Type 0
-Answers s (ok a end) d rows lines = (d .how ≡ how.Done (record { at = end })) × Copy s d rows lines a
-Answers s (no why) d rows lines = d .how ≡ how.Bad why
+Answers s (ok a end) d rows arrows = (d .how ≡ how.Done (record { at = end })) × Copy s d rows arrows a
+Answers s (no why) d rows arrows = d .how ≡ how.Bad why

@@ -1,19 +1,19 @@
--- A line in one number, as the lent array keeps it: not needed to read the promises.
+-- An arrow in one number, as the lent array keeps it: not needed to read the promises.
 use Prim.Native.Nat.{ℕ, _+_, _*_, _/_, _%_, _<_}
 use mathlib.Core.List.{List}
 use lib.ListN.{getD}
-use Rattle.reader.specs.declared.Line.{Line}
+use Rattle.reader.specs.declared.Arrow.{Arrow}
 
 -- Each field is a digit of its own; source and priority are the highest two, so that they order the numbers.
 -- 5, 7, 5, 2, 6, 15 and 24 bits are 64: the number has no bit left, and a further field needs another array.
-unfoldable pub pack : Line → ℕ
+unfoldable pub pack : Arrow → ℕ
 pack t =
     let key = t .source * 128 + t .priority in
     let form = (key * 32 + t .destination) * 4 + t .form in
     let cond = (form * 64 + t .words) * 32768 + t .cond in
     cond * 16777216 + t .wait
 
-unfoldable pub unpack : ℕ → Line
+unfoldable pub unpack : ℕ → Arrow
 unpack w =
     let cond = w / 16777216 in
     let form = cond / 32768 / 64 in
@@ -29,7 +29,7 @@ unpack w =
     }
 
 -- each field is below its digit's base
-pub record Digits (t : Line) : Type 0 where
+pub record Digits (t : Arrow) : Type 0 where
   pub source : t .source < 32
   pub destination : t .destination < 32
   pub priority : t .priority < 128
@@ -40,9 +40,9 @@ pub record Digits (t : Line) : Type 0 where
 
 -- Below this bit a transition may begin, so that the first bit of its condition is below its digit's base. None begins later: 128 of at
 -- most 227 bits stand behind bit 532.
-abbrev pub lineReach : ℕ
-lineReach = 31000
+abbrev pub arrowReach : ℕ
+arrowReach = 31000
 
--- line i of the array
-abbrev pub lineAt : List ℕ → ℕ → Line
-lineAt words i = unpack (getD words i 0)
+-- arrow i of the array
+abbrev pub arrowAt : List ℕ → ℕ → Arrow
+arrowAt words i = unpack (getD words i 0)

@@ -7,20 +7,20 @@ use Prim.Native.Nat.{ℕ, _+_, _-_, _≤_, _<_}
 use native.Mathlib.Omega.{arith}
 use lib.ListN.{length, getD}
 use Rattle.reader.specs.Sheet.{Transition, noTransition}
-use Rattle.reader.specs.inside.Packing.{lineAt}
+use Rattle.reader.specs.inside.Packing.{arrowAt}
 use Rattle.reader.specs.inside.Decoding.{Holds}
-use Rattle.reader.specs.declared.Line.{Line}
+use Rattle.reader.specs.declared.Arrow.{Arrow}
 use Rattle.scan.specs.Scan.{can, best}
 use Rattle.scan.proofs.PickLaws.{Passed, passed-start, passed-fires, passed-stays, passed-end}
 use Rattle.scan.proofs.choose.Statement.{statement}
 use Rattle.scan.proofs.choose.Tie as tie
 
 abbrev Inv-loop : tie.InvT-loop
-Inv-loop s lines m k active word clock best₀ i₀ best i =
-    (i ≤ m) × ((ts : List Transition) → length ts ≡ m → ((j : ℕ) → j < m → Holds s k (lineAt lines j) (getD ts j noTransition)) → Passed active word clock ts i best)
+Inv-loop s arrows m k active word clock best₀ i₀ best i =
+    (i ≤ m) × ((ts : List Transition) → length ts ≡ m → ((j : ℕ) → j < m → Holds s k (arrowAt arrows j) (getD ts j noTransition)) → Passed active word clock ts i best)
 
 abbrev μ-loop : tie.MeasureT-loop
-μ-loop s lines m k active word clock best₀ i₀ best i = m - i
+μ-loop s arrows m k active word clock best₀ i₀ best i = m - i
 
 loop-holds : tie.Need-loop-holds Inv-loop μ-loop
 loop-holds c = (omega arith, λ ts e h. passed-start _ _ _ ts)
@@ -50,14 +50,14 @@ loop-again : tie.Need-loop-again Inv-loop μ-loop
 loop-again c =
     let a = c .before .before .before .before .before .before .before .args in
     let l = c .before .before .before .before .before .loop in
-    let line = c .before .before .unpacked .result in (
+    let arrow = c .before .before .unpacked .result in (
       omega arith,
       λ ts e h.
-          let here = subst (λ (x : Line). Holds (a .s .now) (a .k) x (getD ts (l .i) noTransition)) (sym (c .before .before .unpacked .ensures)) (h (l .i) (omega arith)) in
+          let here = subst (λ (x : Arrow). Holds (a .s .now) (a .k) x (getD ts (l .i) noTransition)) (sym (c .before .before .unpacked .ensures)) (h (l .i) (omega arith)) in
           let before = l .inv .1 ts e h in
           let can = c .before .can-fire .ensures (getD ts (l .i) noTransition) here in
           ⊎-elim
-          (λ w. subst (Passed (a .active) (a .word) (a .clock) ts (l .i + 1)) (sym (w .2 ∙ w .1 .ensures)) (passed-fires (a .active) (a .word) (a .clock) ts (l .i) (l .best) (omega arith) before line (here .priority) (here .destination) (sym can ∙ w .0 .taken)))
+          (λ w. subst (Passed (a .active) (a .word) (a .clock) ts (l .i + 1)) (sym (w .2 ∙ w .1 .ensures)) (passed-fires (a .active) (a .word) (a .clock) ts (l .i) (l .best) (omega arith) before arrow (here .priority) (here .destination) (sym can ∙ w .0 .taken)))
           (λ w. subst (Passed (a .active) (a .word) (a .clock) ts (l .i + 1)) (sym (w .1)) (passed-stays (a .active) (a .word) (a .clock) ts (l .i) (l .best) (omega arith) before (sym can ∙ w .0 .left)))
           (c .if1 .came),
     )

@@ -5,7 +5,7 @@ use lib.ListN.{getD}
 use mathlib.Core.Bool.{cond}
 use mathlib.Core.Path.{_≡_}
 use lib.Dec.{leb}
-use Rattle.reader.specs.declared.Line.{Line}
+use Rattle.reader.specs.declared.Arrow.{Arrow}
 use Rattle.scan.specs.Scan.{Choice, none, some, stateWith}
 use Rattle.scan.specs.declared.State.{State}
 use Rattle.scan.specs.declared.Pick.{Pick}
@@ -18,8 +18,8 @@ Picks pick.Nothing (some t) = ⊥
 Picks (pick.Best p d) none = ⊥
 Picks (pick.Best p d) (some t) = (p ≡ t .priority) × (d ≡ t .destination)
 
--- one line more
-abbrev pub tookOf : Pick → Line → Pick
+-- one arrow more
+abbrev pub tookOf : Pick → Arrow → Pick
 tookOf pick.Nothing l = pick.Best (l .priority) (l .destination)
 tookOf (pick.Best p d) l = cond (leb p (l .priority)) (pick.Best p d) (pick.Best (l .priority) (l .destination))
 

@@ -6,7 +6,7 @@ use Rattle.answer.specs.Lowest.{firstBelow}
 use Rattle.answer.specs.declared.Found.the-variants.{Nothing}
 use Rattle.answer.proofs.Laws.{first-more, first-hit}
 use Rattle.bits.specs.Word.{getBit}
-use Rattle.sheet.specs.inside.Lines.{activityRow}
+use Rattle.sheet.specs.inside.Arrows.{activityRow}
 use Rattle.sheet.proofs.SearchLaws.{search-end}
 use Rattle.sheet.proofs.RowLaws.{activity-is}
 use Rattle.sheet.proofs.first_activity.Statement.{statement}

@@ -4,7 +4,7 @@ use mathlib.Core.Path.{_≡_, sym}
 use Prim.Native.Nat.{_-_}
 use native.Mathlib.Omega.{arith}
 use Rattle.answer.specs.declared.Found.the-variants.{Nothing}
-use Rattle.sheet.specs.inside.Lines.{firstAlike}
+use Rattle.sheet.specs.inside.Arrows.{firstAlike}
 use Rattle.sheet.proofs.ClashLaws.{Apart, apart-start, apart-more, clash-start, clash-more, clash-hit, clash-end}
 use Rattle.sheet.proofs.first_clash.Statement.{statement}
 use Rattle.sheet.proofs.first_clash.Tie as tie

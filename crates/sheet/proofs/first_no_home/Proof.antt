@@ -6,17 +6,17 @@ use native.Mathlib.Omega.{arith}
 use Rattle.answer.specs.Lowest.{firstBelow}
 use Rattle.answer.specs.declared.Found.the-variants.{Nothing}
 use Rattle.answer.proofs.Laws.{first-more, first-hit}
-use Rattle.sheet.specs.inside.Lines.{lacksBit}
+use Rattle.sheet.specs.inside.Arrows.{lacksBit}
 use Rattle.sheet.proofs.SearchLaws.{search-end}
 use Rattle.sheet.proofs.HomeLaws.{by-word, bit-decides, past-idle}
 use Rattle.sheet.proofs.first_no_home.Statement.{statement}
 use Rattle.sheet.proofs.first_no_home.Tie as tie
 
 abbrev Inv-loop : tie.InvT-loop
-Inv-loop lines m n word s₀ s = (1 ≤ s) × (firstBelow (lacksBit word) s ≡ Nothing)
+Inv-loop arrows m n word s₀ s = (1 ≤ s) × (firstBelow (lacksBit word) s ≡ Nothing)
 
 abbrev μ-loop : tie.MeasureT-loop
-μ-loop lines m n word s₀ s = n - s
+μ-loop arrows m n word s₀ s = n - s
 
 homes-requires : tie.Need-homes-requires Inv-loop μ-loop
 homes-requires c κs = c .pre .0

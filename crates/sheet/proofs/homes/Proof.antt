@@ -5,20 +5,20 @@ use mathlib.Core.Logic.{⊎-elim}
 use Prim.Native.Nat.{_-_, _≤_, _<_}
 use native.Mathlib.Omega.{arith}
 use lib.Dec.{eqb}
-use Rattle.reader.specs.declared.Line.{Line}
-use Rattle.sheet.specs.inside.Lines.{Homes}
+use Rattle.reader.specs.declared.Arrow.{Arrow}
+use Rattle.sheet.specs.inside.Arrows.{Homes}
 use Rattle.sheet.proofs.HomeLaws.{source-fits, homes-start, homes-set, homes-keep}
 use Rattle.sheet.proofs.homes.Statement.{statement}
 use Rattle.sheet.proofs.homes.Tie as tie
 
 abbrev Inv-loop : tie.InvT-loop
-Inv-loop lines m word₀ i₀ word i = (i ≤ m) × Homes lines i word
+Inv-loop arrows m word₀ i₀ word i = (i ≤ m) × Homes arrows i word
 
 abbrev μ-loop : tie.MeasureT-loop
-μ-loop lines m word₀ i₀ word i = m - i
+μ-loop arrows m word₀ i₀ word i = m - i
 
 loop-holds : tie.Need-loop-holds Inv-loop μ-loop
-loop-holds c = (omega arith, homes-start (c .args .lines .now))
+loop-holds c = (omega arith, homes-start (c .args .arrows .now))
 
 mul-unpacked : tie.Need-mul-unpacked Inv-loop μ-loop
 mul-unpacked c = omega arith
@@ -29,11 +29,11 @@ element-copy-out-unpacked c = omega arith
 unpacked-requires : tie.Need-unpacked-requires Inv-loop μ-loop
 unpacked-requires c κs = search needs
 
-abbrev line : tie.After-struct-known3 Inv-loop μ-loop → Line
-line c = c .before .before .before .before .unpacked .result
+abbrev arrow : tie.After-struct-known3 Inv-loop μ-loop → Arrow
+arrow c = c .before .before .before .before .unpacked .result
 
-fits : (c : tie.After-struct-known3 Inv-loop μ-loop) → line c .source < 32
-fits c = source-fits (eqb (line c .destination) 0) (line c .source) (c .before .if1 .taken)
+fits : (c : tie.After-struct-known3 Inv-loop μ-loop) → arrow c .source < 32
+fits c = source-fits (eqb (arrow c .destination) 0) (arrow c .source) (c .before .if1 .taken)
 
 cast-set-bit : tie.Need-cast-set-bit Inv-loop μ-loop
 cast-set-bit c = omega (arith, fits c)
@@ -49,12 +49,12 @@ loop-less c = omega arith
 
 loop-again : tie.Need-loop-again Inv-loop μ-loop
 loop-again c =
-    let lines = c .before .before .before .before .before .before .before .args .lines .now in
+    let arrows = c .before .before .before .before .before .before .before .args .arrows .now in
     let i = c .before .before .before .before .before .before .loop .i in
     let t = c .before .before .before .unpacked .ensures in
     let before = c .before .before .before .before .before .before .loop .inv .1 in (
       omega arith,
-      ⊎-elim (λ w. rw (w .3, w .2 .ensures, t) (homes-set lines i _ before (rw t at (w .0 .taken)))) (λ w. rw (w .1) (homes-keep lines i _ before (rw t at (w .0 .left))))
+      ⊎-elim (λ w. rw (w .3, w .2 .ensures, t) (homes-set arrows i _ before (rw t at (w .0 .taken)))) (λ w. rw (w .1) (homes-keep arrows i _ before (rw t at (w .0 .left))))
           (c .if1 .came),
     )
 

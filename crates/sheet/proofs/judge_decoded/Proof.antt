@@ -4,7 +4,7 @@ use mathlib.Core.Path.{_≡_, sym, _∙_}
 use mathlib.Core.List.{List}
 use Prim.Native.Nat.{ℕ}
 use Rattle.answer.specs.declared.Found.the-variants.{Nothing}
-use Rattle.sheet.specs.inside.Lines.{firstBreak, firstClash, judgeLines}
+use Rattle.sheet.specs.inside.Arrows.{firstBreak, firstClash, judgeArrows}
 use Rattle.sheet.specs.declared.Rule.the-variants as rule
 use Rattle.sheet.specs.declared.Clash.the-variants as clash
 use Rattle.sheet.proofs.ClashLaws.{by-keys}
@@ -19,50 +19,50 @@ from1 c = c .before .before .before
 abbrev from2 : tie.After-first-clash2 → tie.After-enum-told2
 from2 c = c .before .before .before
 
-abbrev lines : tie.After-enum-told → List ℕ
-lines c = c .before .before .before .args .lines .now
+abbrev arrows : tie.After-enum-told → List ℕ
+arrows c = c .before .before .before .args .arrows .now
 
 abbrev many : tie.After-enum-told → ℕ
 many c = c .before .before .before .args .d .transitions
 
-no-loop : (c : tie.After-enum-told) → firstBreak rule.Loop (lines c) (many c) ≡ Nothing
-no-loop c = sym (c .before .before .first-line .ensures) ∙ c .enum-told .given .1
+no-loop : (c : tie.After-enum-told) → firstBreak rule.Loop (arrows c) (many c) ≡ Nothing
+no-loop c = sym (c .before .before .first-arrow .ensures) ∙ c .enum-told .given .1
 
-pair-is : (c : tie.After-first-clash) → firstClash clash.Pair (lines (from1 c)) (many (from1 c)) ≡ c .first-clash .result
-pair-is c = sym (c .first-clash .ensures ∙ by-keys clash.Pair (lines (from1 c)) (many (from1 c)) _ (c .before .before .keys-of .ensures))
+pair-is : (c : tie.After-first-clash) → firstClash clash.Pair (arrows (from1 c)) (many (from1 c)) ≡ c .first-clash .result
+pair-is c = sym (c .first-clash .ensures ∙ by-keys clash.Pair (arrows (from1 c)) (many (from1 c)) _ (c .before .before .keys-of .ensures))
 
-no-pair : (c : tie.After-enum-told2) → firstClash clash.Pair (lines (from1 (c .before .before))) (many (from1 (c .before .before))) ≡ Nothing
+no-pair : (c : tie.After-enum-told2) → firstClash clash.Pair (arrows (from1 (c .before .before))) (many (from1 (c .before .before))) ≡ Nothing
 no-pair c = pair-is (c .before .before) ∙ c .enum-told2 .given .1
 
-rank-is : (c : tie.After-first-clash2) → let b = from1 (from2 c .before .before) in firstClash clash.Rank (lines b) (many b) ≡ c .first-clash2 .result
+rank-is : (c : tie.After-first-clash2) → let b = from1 (from2 c .before .before) in firstClash clash.Rank (arrows b) (many b) ≡ c .first-clash2 .result
 rank-is c =
     let b = from1 (from2 c .before .before) in
-    sym (c .first-clash2 .ensures ∙ by-keys clash.Rank (lines b) (many b) _ (c .before .before .keys-of2 .ensures))
+    sym (c .first-clash2 .ensures ∙ by-keys clash.Rank (arrows b) (many b) _ (c .before .before .keys-of2 .ensures))
 
-no-rank : (c : tie.After-enum-told3) → let b = from1 (from2 (c .before .before) .before .before) in firstClash clash.Rank (lines b) (many b) ≡ Nothing
+no-rank : (c : tie.After-enum-told3) → let b = from1 (from2 (c .before .before) .before .before) in firstClash clash.Rank (arrows b) (many b) ≡ Nothing
 no-rank c = rank-is (c .before .before) ∙ c .enum-told3 .given .1
 
 returns : tie.Need-returns
-unfolding judgeLines
+unfolding judgeArrows
 returns c s a k =
     rw (← judge-same s _ _ _ a k)
-    (rw (sym (c .before .before .before .first-line .ensures) ∙ c .before .to-itself .given .1))
+    (rw (sym (c .before .before .before .first-arrow .ensures) ∙ c .before .to-itself .given .1))
 
 returns-2 : tie.Need-returns-2
-unfolding judgeLines
+unfolding judgeArrows
 returns-2 c s a k =
     let f = c .before .before .before in
     rw (← judge-same s _ _ _ a k) (rw (no-loop (from1 f), pair-is f ∙ c .before .pair .given .1))
 
 returns-3 : tie.Need-returns-3
-unfolding judgeLines
+unfolding judgeArrows
 returns-3 c s a k =
     let f = c .before .before .before in
     let p = from2 f in
     rw (← judge-same s _ _ _ a k) (rw (no-loop (from1 (p .before .before)), no-pair p, rank-is f ∙ c .before .rank .given .1))
 
 returns-4 : tie.Need-returns-4
-unfolding judgeLines
+unfolding judgeArrows
 returns-4 c s a k =
     let r = c .before .before in
     let p = from2 (r .before .before) in

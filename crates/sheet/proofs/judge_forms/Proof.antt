@@ -3,7 +3,7 @@ use borrow.Author.Needs.{needs}
 use mathlib.Core.Path.{_≡_, sym, _∙_}
 use Rattle.answer.specs.Lowest.{firstBelow}
 use Rattle.answer.specs.declared.Found.the-variants.{Nothing}
-use Rattle.sheet.specs.inside.Lines.{lacksHomeLine, firstBreak, judgeForms}
+use Rattle.sheet.specs.inside.Arrows.{lacksHomeArrow, firstBreak, judgeForms}
 use Rattle.sheet.specs.declared.Rule.the-variants as rule
 use Rattle.sheet.proofs.judge_forms.Statement.{statement}
 use Rattle.sheet.proofs.judge_forms.Tie as tie
@@ -15,14 +15,14 @@ from1 c = c .before .before .before
 abbrev from2 : tie.After-enum-told3 → tie.After-enum-told2
 from2 c = c .before .before .before
 
-homes-there : (c : tie.After-enum-told) → let a = c .before .before .before .args in firstBelow (lacksHomeLine (a .lines .now) (a .m)) (a .n) ≡ Nothing
+homes-there : (c : tie.After-enum-told) → let a = c .before .before .before .args in firstBelow (lacksHomeArrow (a .arrows .now) (a .m)) (a .n) ≡ Nothing
 homes-there c = sym (c .before .before .first-no-home .ensures) ∙ c .enum-told .given .1
 
-forms-right : (c : tie.After-enum-told2) → let a = from1 c .before .before .before .args in firstBreak rule.HomeForm (a .lines .now) (a .m) ≡ Nothing
-forms-right c = sym (c .before .before .first-line .ensures) ∙ c .enum-told2 .given .1
+forms-right : (c : tie.After-enum-told2) → let a = from1 c .before .before .before .args in firstBreak rule.HomeForm (a .arrows .now) (a .m) ≡ Nothing
+forms-right c = sym (c .before .before .first-arrow .ensures) ∙ c .enum-told2 .given .1
 
-gates-right : (c : tie.After-enum-told3) → let a = from1 (from2 c) .before .before .before .args in firstBreak rule.Gate (a .lines .now) (a .m) ≡ Nothing
-gates-right c = sym (c .before .before .first-line2 .ensures) ∙ c .enum-told3 .given .1
+gates-right : (c : tie.After-enum-told3) → let a = from1 (from2 c) .before .before .before .args in firstBreak rule.Gate (a .arrows .now) (a .m) ≡ Nothing
+gates-right c = sym (c .before .before .first-arrow2 .ensures) ∙ c .enum-told3 .given .1
 
 returns : tie.Need-returns
 unfolding judgeForms
@@ -31,14 +31,14 @@ returns c = rw (sym (c .before .before .before .first-no-home .ensures) ∙ c .b
 returns-2 : tie.Need-returns-2
 unfolding judgeForms
 returns-2 c =
-    let found = sym (c .before .before .before .first-line .ensures) ∙ c .before .home-form .given .1 in
+    let found = sym (c .before .before .before .first-arrow .ensures) ∙ c .before .home-form .given .1 in
     rw (homes-there (c .before .before .before .before), found)
 
 returns-3 : tie.Need-returns-3
 unfolding judgeForms
 returns-3 c =
     let h = c .before .before .before .before in
-    let found = sym (c .before .before .before .first-line2 .ensures) ∙ c .before .gate .given .1 in
+    let found = sym (c .before .before .before .first-arrow2 .ensures) ∙ c .before .gate .given .1 in
     rw (homes-there (from1 h), forms-right h, found)
 
 returns-4 : tie.Need-returns-4

@@ -11,14 +11,14 @@ use Rattle.sheet.specs.declared.Opened.{Opened}
 use Rattle.sheet.specs.Judging.{judge, checkSheet}
 
 -- the bytes are an accepted sheet, of which the copy is in r and in the arrays lent
-pub record Good (s : List ℕ) (r : Opened) (rows lines : List ℕ) : Type 0 where
+pub record Good (s : List ℕ) (r : Opened) (rows arrows : List ℕ) : Type 0 where
   pub sheet : Sheet
   pub end : ℕ
   pub read : readSheet s ≡ ok sheet end
   pub judged : judge sheet ≡ Accepted
-  pub copy : Copy s (r .decoded) rows lines sheet
+  pub copy : Copy s (r .decoded) rows arrows sheet
 
 -- the verdict, and the copy where it accepts
-pub record Opens (s : List ℕ) (r : Opened) (rows lines : List ℕ) : Type 0 where
+pub record Opens (s : List ℕ) (r : Opened) (rows arrows : List ℕ) : Type 0 where
   pub verdict : r .verdict ≡ checkSheet s
-  pub good : r .verdict ≡ Accepted → Good s r rows lines
+  pub good : r .verdict ≡ Accepted → Good s r rows arrows
