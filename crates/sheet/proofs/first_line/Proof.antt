@@ -24,7 +24,8 @@ loop-holds c = refl
 
 -- what the code tells of line i
 tested : (c : tie.After-breaks Inv-loop μ-loop)
-    → breaksLine (c .before .before .before .before .before .args .rule) (lineAt (c .before .before .before .before .before .args .lines .now) (c .before .before .before .before .loop .i))
+    → breaksLine (c .before .before .before .before .before .args .rule)
+    (lineAt (c .before .before .before .before .before .args .lines .now) (c .before .before .before .before .loop .i))
     ≡ c .breaks .result
 tested c =
     let a = c .before .before .before .before .before .args in
@@ -35,14 +36,16 @@ unfolding firstBreak
 returns c =
     let a = c .before .before .before .before .before .before .args in
     let l = c .before .before .before .before .before .loop in
-    sym (first-hit (λ j. breaksLine (a .rule) (lineAt (a .lines .now) j)) (l .i) (a .m) (omega arith) (l .inv) (tested (c .before) ∙ c .if1 .taken))
+    sym (first-hit (λ j. breaksLine (a .rule) (lineAt (a .lines .now) j)) (l .i) (a .m) (omega arith) (l .inv)
+    (tested (c .before) ∙ c .if1 .taken))
 
 loop-again : tie.Need-loop-again Inv-loop μ-loop
 unfolding firstBreak
 loop-again c =
     let a = c .before .before .before .before .before .before .args in
     let l = c .before .before .before .before .before .loop in
-    first-more (λ j. breaksLine (a .rule) (lineAt (a .lines .now) j)) (l .i) (l .inv) (tested (c .before) ∙ c .if1 .left)
+    first-more (λ j. breaksLine (a .rule) (lineAt (a .lines .now) j)) (l .i) (l .inv)
+    (tested (c .before) ∙ c .if1 .left)
 
 returns-2 : tie.Need-returns-2 Inv-loop μ-loop
 unfolding firstBreak
