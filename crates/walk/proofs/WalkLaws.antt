@@ -9,11 +9,10 @@ use lib.ListN.{length}
 use Rattle.bits.specs.Field.{numAt}
 use Rattle.bits.proofs.FieldLaws.{num-lt, num-join}
 use Rattle.condition.specs.Cond.{Cond, inp, neg, conj, disj, nodes}
+use Rattle.condition.specs.inside.Reach.{condEnd}
+use Rattle.condition.specs.inside.Lies.{size, Lies, Lodges}
 use Rattle.walk.specs.Items.{Item, Turn, OpenAnd, OpenOr, Close, items}
 use Rattle.walk.specs.inside.Walking.{
-  size,
-  Stands,
-  Fits,
   Frame,
   turning,
   closing,
@@ -49,14 +48,14 @@ nodes-some (neg c) = omega arith
 nodes-some (conj a b) = omega arith
 nodes-some (disj a b) = omega arith
 
-stands-inside : (s : List ℕ) (at : ℕ) (t : Cond) → Stands s at t → at + size t ≤ length s * 8
+lies-inside : (s : List ℕ) (at : ℕ) (t : Cond) → Lies s at t → at + size t ≤ length s * 8
 unfolding size
-stands-inside s at (inp i) h = omega (arith, h .1 .0)
-stands-inside s at (neg c) h = omega (arith, stands-inside s (at + 2) c (h .1))
-stands-inside s at (conj a b) h = omega (arith, stands-inside s (at + 2 + size a) b (h .2))
-stands-inside s at (disj a b) h = omega (arith, stands-inside s (at + 2 + size a) b (h .2))
+lies-inside s at (inp i) h = omega (arith, h .1 .0)
+lies-inside s at (neg c) h = omega (arith, lies-inside s (at + 2) c (h .1))
+lies-inside s at (conj a b) h = omega (arith, lies-inside s (at + 2 + size a) b (h .2))
+lies-inside s at (disj a b) h = omega (arith, lies-inside s (at + 2 + size a) b (h .2))
 
-waits-near : (s : List ℕ) (at : ℕ) (fs : List Frame) → Waits s at fs → at ≤ 990000
+waits-near : (s : List ℕ) (at : ℕ) (fs : List Frame) → Waits s at fs → at ≤ condEnd
 waits-near s at [] h = h
 waits-near s at (turning ∷ fs) h = waits-near s at fs h
 waits-near s at (anding b ∷ fs) h = omega (arith, waits-near s (at + size b) fs (h .1))
@@ -99,17 +98,17 @@ six s at = num-join s at 2 4
 
 module _ {s : List ℕ} {at pending : ℕ} {is : List Item} (d : Down s at pending is) where
   -- the bits of a node are there
-  pub down-near : at + 6 ≤ 990000
+  pub down-near : at + 6 ≤ condEnd
   down-near = omega (arith, waits-near s (at + size (d .tree)) (d .frames) (d .waits), size-some (d .tree))
 
   pub down-inside : at + 6 ≤ length s * 8
-  down-inside = omega (arith, stands-inside s at (d .tree) (d .stands), size-some (d .tree))
+  down-inside = omega (arith, lies-inside s at (d .tree) (d .lies), size-some (d .tree))
 
   pub down-room : pending < 2305843009213693952
   down-room = omega (arith, d .coded, enc-room (d .frames) (omega (arith, d .few, nodes-some (d .tree))))
 
 -- an operator: it waits, and its first operand is next
-down-on : (s : List ℕ) (at pending : ℕ) (is : List Item) (t : Cond) (fs : List Frame) → Stands s at t → Waits s (at + size t) fs → nodes t + load fs ≤ 31
+down-on : (s : List ℕ) (at pending : ℕ) (is : List Item) (t : Cond) (fs : List Frame) → Lies s at t → Waits s (at + size t) fs → nodes t + load fs ≤ 31
     → pending ≡ enc fs → is ≡ items t ++ after fs → 16 ≤ numAt s at 6 → Down s (at + 2) (pending * 4 + numAt s at 6 / 16) is
 unfolding items size nodes load enc after
 down-on s at pending is (inp i) fs h w few e q big = absurd (omega (arith, six s at, h .0 .1, num-lt s (at + 2) 4))
@@ -117,7 +116,7 @@ down-on s at pending is (neg c) fs h w few e q big =
     record {
       tree = c;
       frames = turning ∷ fs;
-      stands = h .1;
+      lies = h .1;
       waits = subst (λ (x : ℕ). Waits s x fs) (sym (add-assoc at 2 (size c))) w;
       few = omega (arith, few);
       coded = omega (arith, e, six s at, h .0 .1, num-lt s (at + 2) 4);
@@ -128,7 +127,7 @@ down-on s at pending is (conj a b) fs h w few e q big =
     record {
       tree = a;
       frames = anding b ∷ fs;
-      stands = h .1;
+      lies = h .1;
       waits = (h .2, subst (λ (x : ℕ). Waits s x fs) place w);
       few = omega (arith, few);
       coded = omega (arith, e, six s at, h .0 .1, num-lt s (at + 2) 4);
@@ -139,7 +138,7 @@ down-on s at pending is (disj a b) fs h w few e q big =
     record {
       tree = a;
       frames = oring b ∷ fs;
-      stands = h .1;
+      lies = h .1;
       waits = (h .2, subst (λ (x : ℕ). Waits s x fs) place w);
       few = omega (arith, few);
       coded = omega (arith, e, six s at, h .0 .1, num-lt s (at + 2) 4);
@@ -149,10 +148,10 @@ down-on s at pending is (disj a b) fs h w few e q big =
 pub down-next : {s : List ℕ} {at pending : ℕ} {is : List Item} {node : ℕ} → node ≡ numAt s at 6 → 16 ≤ node → Down s at pending is
     → Down s (at + 2) (pending * 4 + node / 16) is
 down-next {s} {at} {pending} {is} {node} e big d =
-    rw e (down-on s at pending is (d .tree) (d .frames) (d .stands) (d .waits) (d .few) (d .coded) (d .comes) (omega arith))
+    rw e (down-on s at pending is (d .tree) (d .frames) (d .lies) (d .waits) (d .few) (d .coded) (d .comes) (omega arith))
 
 -- an input
-input-tells : (s : List ℕ) (at pending : ℕ) (is : List Item) (t : Cond) (fs : List Frame) → Stands s at t → Waits s (at + size t) fs → nodes t + load fs ≤ 31
+input-tells : (s : List ℕ) (at pending : ℕ) (is : List Item) (t : Cond) (fs : List Frame) → Lies s at t → Waits s (at + size t) fs → nodes t + load fs ≤ 31
     → pending ≡ enc fs → is ≡ items t ++ after fs → (node : ℕ) → node ≡ numAt s at 6 → node < 16
     → Tells s is (step.Item 2 node (walkAt (at + 6) pending true))
 unfolding items size nodes
@@ -165,7 +164,7 @@ input-tells s at pending is (disj a b) fs h w few e q node n small = absurd (ome
 pub down-tells : {s : List ℕ} {at pending : ℕ} {is : List Item} {node : ℕ} → node ≡ numAt s at 6 → node < 16 → Down s at pending is
     → Tells s is (step.Item 2 node (walkAt (at + 6) pending true))
 down-tells {s} {at} {pending} {is} {node} e small d =
-    input-tells s at pending is (d .tree) (d .frames) (d .stands) (d .waits) (d .few) (d .coded) (d .comes) node e small
+    input-tells s at pending is (d .tree) (d .frames) (d .lies) (d .waits) (d .few) (d .coded) (d .comes) node e small
 
 -- an operand is finished: by what waits
 module _ (s : List ℕ) (at pending : ℕ) (is : List Item) where
@@ -180,9 +179,9 @@ module _ (s : List ℕ) (at pending : ℕ) (is : List Item) where
   join-on [] w few e q big = absurd (omega arith)
   join-on (turning ∷ fs) w few e q big = absurd (omega arith)
   join-on (anding b ∷ fs) w few e q big =
-      rw q (omega arith, refl, omega arith, record { tree = b; frames = closing ∷ fs; stands = w .0; waits = w .1; few = omega (arith, few); coded = omega arith; comes = refl })
+      rw q (omega arith, refl, omega arith, record { tree = b; frames = closing ∷ fs; lies = w .0; waits = w .1; few = omega (arith, few); coded = omega arith; comes = refl })
   join-on (oring b ∷ fs) w few e q big =
-      rw q (omega arith, refl, omega arith, record { tree = b; frames = closing ∷ fs; stands = w .0; waits = w .1; few = omega (arith, few); coded = omega arith; comes = refl })
+      rw q (omega arith, refl, omega arith, record { tree = b; frames = closing ∷ fs; lies = w .0; waits = w .1; few = omega (arith, few); coded = omega arith; comes = refl })
   join-on (closing ∷ fs) w few e q big = absurd (omega arith)
 
   turn-on : (fs : List Frame) → Waits s at fs → load fs ≤ 31 → pending ≡ enc fs → is ≡ after fs → (pending ≡ 1 → ⊥) → pending % 4 ≡ 1
@@ -241,13 +240,13 @@ module _ {s : List ℕ} (w : Walk) {is : List Item} where
       go false e h = absurd (let y : _≡_ {A = ℕ} 0 1 = cc in omega arith)
 
 -- the walk of a whole condition
-pub fits-walks : (s : List ℕ) (at : ℕ) (t : Cond) → Fits s at t → Down s at 1 (items t)
+pub fits-walks : (s : List ℕ) (at : ℕ) (t : Cond) → Lodges s at t → Down s at 1 (items t)
 unfolding enc after load
 fits-walks s at t f =
     record {
       tree = t;
       frames = [];
-      stands = f .stands;
+      lies = f .lies;
       waits = f .near;
       few = omega (arith, f .few);
       coded = refl;
@@ -255,7 +254,7 @@ fits-walks s at t f =
     }
 
 -- the bits left fall down to an input; what waits falls behind an operand
-pub left-down : (from waiting at pending : ℕ) → from ≤ at → at + 6 ≤ 990000 → pending < 2305843009213693952
+pub left-down : (from waiting at pending : ℕ) → from ≤ at → at + 6 ≤ condEnd → pending < 2305843009213693952
     → left (at + 6) pending < left from waiting
 unfolding left
 left-down from waiting at pending l near room = omega arith
@@ -265,5 +264,5 @@ unfolding left
 left-up at p q l = omega arith
 
 -- the walk of `start`
-pub started : (s : List ℕ) (at : ℕ) (t : Cond) → Fits s at t → {w : Walk} → w ≡ walkAt at 1 false → Walks s w (items t)
+pub started : (s : List ℕ) (at : ℕ) (t : Cond) → Lodges s at t → {w : Walk} → w ≡ walkAt at 1 false → Walks s w (items t)
 started s at t f {w} e = rw e (fits-walks s at t f)

@@ -3,7 +3,7 @@ use mathlib.Core.Path.{_≡_}
 use mathlib.Core.List.{List}
 use Prim.Native.Nat.{_+_, _*_, _-_, _/_, _≤_}
 use native.Mathlib.Omega.{arith}
-use Rattle.bits.specs.Field.{numAt}
+use Rattle.bits.specs.Field.{reach, numAt}
 use Rattle.bits.proofs.FieldLaws.{num-lt}
 use Rattle.walk.specs.Items.{Item}
 use Rattle.walk.specs.inside.Walking.{Down}
@@ -16,7 +16,7 @@ Inv-loop s from waiting at₀ pending₀ node₀ at pending node =
     ((is : List Item) → Down s from waiting is → Down s at pending is) × (node ≡ numAt s at 6) × (from ≤ at)
 
 abbrev μ-loop : tie.MeasureT-loop
-μ-loop s from waiting at₀ pending₀ node₀ at pending node = 1000000 - at
+μ-loop s from waiting at₀ pending₀ node₀ at pending node = reach - at
 
 -- what is to come, at a turn's start and behind an operator
 here : (c : tie.In-loop Inv-loop μ-loop)

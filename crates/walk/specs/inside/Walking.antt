@@ -3,41 +3,14 @@ use mathlib.Core.Path.{_≡_}
 use mathlib.Core.Bool.{Bool, true, false}
 use mathlib.Core.List.{List, [], _∷_, _++_}
 use Prim.Native.Nat.{ℕ, _+_, _*_, _-_, _≤_, _<_}
-use lib.ListN.{length}
-use Rattle.bits.specs.Field.{numAt}
-use Rattle.condition.specs.Cond.{Cond, inp, neg, conj, disj, nodes}
+use Rattle.bits.specs.Field.{reach}
+use Rattle.condition.specs.Cond.{Cond, nodes}
+use Rattle.condition.specs.inside.Reach.{condEnd}
+use Rattle.condition.specs.inside.Lies.{size, Lies}
 use Rattle.walk.specs.Items.{Item, Turn, OpenAnd, OpenOr, Close, items, itemNo, operandOf}
 use Rattle.walk.specs.declared.Walk.{Walk}
 use Rattle.walk.specs.declared.Step.{Step}
 use Rattle.walk.specs.declared.Step.the-variants as step
-
--- the bits that a condition takes
-unfoldable pub size : Cond → ℕ
-size (inp i) = 6
-size (neg c) = 2 + size c
-size (conj a b) = 2 + size a + size b
-size (disj a b) = 2 + size a + size b
-
--- w bits are there from `at` on, and are v
-abbrev pub Reads : List ℕ → ℕ → ℕ → ℕ → Type 0
-Reads s at w v = (at + w ≤ length s * 8) × (numAt s at w ≡ v)
-
--- the condition stands in the bytes from bit `at` on
-abbrev pub Stands : List ℕ → ℕ → Cond → Type 0
-Stands s at (inp i) = Reads s at 2 0 × Reads s (at + 2) 4 i
-Stands s at (neg c) = Reads s at 2 1 × Stands s (at + 2) c
-Stands s at (conj a b) = Reads s at 2 2 × Stands s (at + 2) a × Stands s (at + 2 + size a) b
-Stands s at (disj a b) = Reads s at 2 3 × Stands s (at + 2) a × Stands s (at + 2 + size a) b
-
--- and is one that a sheet may have there
-pub record Fits (s : List ℕ) (at : ℕ) (t : Cond) : Type 0 where
-  pub stands : Stands s at t
-  pub near : at + size t ≤ 990000
-  pub few : nodes t ≤ 31
-
-pub record Standing (s : List ℕ) (at : ℕ) : Type 0 where
-  pub tree : Cond
-  pub fits : Fits s at tree
 
 -- what waits while an operand is walked: NOT; AND and OR with their second operand; a parenthesis to close
 pub data Frame : Type 0 where
@@ -64,10 +37,10 @@ after (closing ∷ fs) = Close ∷ after fs
 
 -- the second operands stand one behind the other
 abbrev pub Waits : List ℕ → ℕ → List Frame → Type 0
-Waits s at [] = at ≤ 990000
+Waits s at [] = at ≤ condEnd
 Waits s at (turning ∷ fs) = Waits s at fs
-Waits s at (anding b ∷ fs) = Stands s at b × Waits s (at + size b) fs
-Waits s at (oring b ∷ fs) = Stands s at b × Waits s (at + size b) fs
+Waits s at (anding b ∷ fs) = Lies s at b × Waits s (at + size b) fs
+Waits s at (oring b ∷ fs) = Lies s at b × Waits s (at + size b) fs
 Waits s at (closing ∷ fs) = Waits s at fs
 
 -- the nodes met that wait, and those not met yet
@@ -82,7 +55,7 @@ load (closing ∷ fs) = 1 + load fs
 pub record Down (s : List ℕ) (at pending : ℕ) (is : List Item) : Type 0 where
   pub tree : Cond
   pub frames : List Frame
-  pub stands : Stands s at tree
+  pub lies : Lies s at tree
   pub waits : Waits s (at + size tree) frames
   pub few : nodes tree + load frames ≤ 31
   pub coded : pending ≡ enc frames
@@ -126,7 +99,7 @@ Tells s (i ∷ is) step.Done = ⊥
 
 -- what falls with each item: the bits left, and below them what waits, which is less than 2 ^ 61
 unfoldable pub left : ℕ → ℕ → ℕ
-left at pending = (1000000 - at) * 2305843009213693952 + pending
+left at pending = (reach - at) * 2305843009213693952 + pending
 
 abbrev pub Falls : ℕ → ℕ → Step → Type 0
 Falls at pending (step.Item number operand walk) = left (walk .at) (walk .pending) < left at pending
