@@ -26,17 +26,20 @@ there1 : (c : tie.After-known-told) → fieldAt (c .before .before .before .befo
 there1 c = sym (c .before .before .before .field .ensures) ∙ c .before .g1 .given .1
 
 there2 : (c : tie.After-known-told2)
-    → fieldAt (from1 c .before .before .before .before .before .args .s .now) (from1 c .before .g1 .given .0 .1 .0 .at) 4
+    → fieldAt (from1 c .before .before .before .before .before .args .s .now)
+    (from1 c .before .g1 .given .0 .1 .0 .at) 4
     ≡ got.Field (c .before .g2 .given .0 .0) (c .before .g2 .given .0 .1 .0)
 there2 c = sym (c .before .before .before .field2 .ensures) ∙ c .before .g2 .given .1
 
 there3 : (c : tie.After-known-told3)
-    → fieldAt (from1 (from2 c) .before .before .before .before .before .args .s .now) (from2 c .before .g2 .given .0 .1 .0 .at) 4
+    → fieldAt (from1 (from2 c) .before .before .before .before .before .args .s .now)
+    (from2 c .before .g2 .given .0 .1 .0 .at) 4
     ≡ got.Field (c .before .g3 .given .0 .0) (c .before .g3 .given .0 .1 .0)
 there3 c = sym (c .before .before .before .field3 .ensures) ∙ c .before .g3 .given .1
 
 there4 : (c : tie.After-known-told4)
-    → fieldAt (from1 (from2 (from3 c)) .before .before .before .before .before .args .s .now) (from3 c .before .g3 .given .0 .1 .0 .at) 7
+    → fieldAt (from1 (from2 (from3 c)) .before .before .before .before .before .args .s .now)
+    (from3 c .before .g3 .given .0 .1 .0 .at) 7
     ≡ got.Field (c .before .g4 .given .0 .0) (c .before .g4 .given .0 .1 .0)
 there4 c = sym (c .before .before .before .field4 .ensures) ∙ c .before .g4 .given .1
 
@@ -55,7 +58,8 @@ near4 c = let f = field-got _ _ _ _ _ (there4 c) in omega (arith, f .after, f .b
 
 returns : tie.Need-returns
 unfolding readHeader
-returns c = rw (sym (c .before .before .before .field .ensures) ∙ c .before .enum-told .given .1) (c .no-header .ensures)
+returns c = rw (sym (c .before .before .before .field .ensures) ∙ c .before .enum-told .given .1)
+    (c .no-header .ensures)
 
 returns-2 : tie.Need-returns-2
 unfolding readHeader

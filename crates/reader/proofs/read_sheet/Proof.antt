@@ -55,18 +55,21 @@ rows-now c = c .before .before .before .read-rows .last .1 .1 .1 .1 .0
 
 rows-are : (c : tie.After-known-told2)
     → (xs : List (List Bool))
-    × (upto (rowAt (bytes (from1 c)) (header (from1 c) .outputs)) (from1 c .before .how0 .given .0 .0 .at) (header (from1 c) .states)
+    × (upto (rowAt (bytes (from1 c)) (header (from1 c) .outputs)) (from1 c .before .how0 .given .0 .0 .at)
+    (header (from1 c) .states)
     ≡ ok xs (c .before .how1 .given .0 .0 .at))
     × ((i : ℕ) → i < header (from1 c) .states → getD (rows-now c) i 0 ≡ wordOf (getD xs i []))
 rows-are c =
     let went = c .before .before .before .read-rows in
-    rows-done _ (header (from1 c) .states) (went .result) _ (c .before .how1 .given .0 .0) (went .ensures) (c .before .how1 .given .1)
+    rows-done _ (header (from1 c) .states) (went .result) _ (c .before .how1 .given .0 .0) (went .ensures)
+    (c .before .how1 .given .1)
 
 rows-end : (c : tie.After-known-told2) → c .before .how1 .given .0 .0 .at ≤ 532
 rows-end c =
     let b = from1 c in
     let h = headed b in
-    let next = rows-next (bytes b) (header b .outputs) (b .before .how0 .given .0 .0 .at) (header b .states) (h .outputs .1) (h .states .1) (rows-are c .1) in
+    let next = rows-next (bytes b) (header b .outputs) (b .before .how0 .given .0 .0 .at) (header b .states)
+    (h .outputs .1) (h .states .1) (rows-are c .1) in
     omega (arith, h .after)
 
 -- the transitions are read
@@ -75,21 +78,26 @@ arrows-now c = c .before .before .before .read-transitions .last .1 .1 .1 .1 .1 
 
 arrows-are : (c : tie.After-known-told3)
     → (ts : List Transition)
-    × (upto (transitionAt (bytes (from1 (from2 c))) (header (from1 (from2 c)) .states) (header (from1 (from2 c)) .inputs)) (from2 c .before .how1 .given .0 .0 .at) (header (from1 (from2 c)) .transitions)
+    × (upto (transitionAt (bytes (from1 (from2 c))) (header (from1 (from2 c)) .states)
+    (header (from1 (from2 c)) .inputs)) (from2 c .before .how1 .given .0 .0 .at) (header (from1 (from2 c)) .transitions)
     ≡ ok ts (c .before .how2 .given .0 .0 .at))
     × (length (arrows-now c) ≡ 128)
-    × ((i : ℕ) → i < header (from1 (from2 c)) .transitions → Holds (bytes (from1 (from2 c))) (header (from1 (from2 c)) .inputs) (arrowAt (arrows-now c) i) (getD ts i noTransition))
+    × ((i : ℕ) → i < header (from1 (from2 c)) .transitions
+    → Holds (bytes (from1 (from2 c))) (header (from1 (from2 c)) .inputs) (arrowAt (arrows-now c) i)
+    (getD ts i noTransition))
 arrows-are c =
     let b = from1 (from2 c) in
     let went = c .before .before .before .read-transitions in
-    arrows-done (bytes b) (header b .inputs) _ (header b .transitions) (went .result) _ (c .before .how2 .given .0 .0) (went .ensures) (c .before .how2 .given .1)
+    arrows-done (bytes b) (header b .inputs) _ (header b .transitions) (went .result) _ (c .before .how2 .given .0 .0)
+    (went .ensures) (c .before .how2 .given .1)
 
 returns : tie.Need-returns
 unfolding readSheet
 returns c =
     let told = c .before .enum-told .given in
     let went = c .before .before .before .read-header in
-    let e = header-bad (readHeader (c .before .before .before .before .before .args .s .now)) (went .result) (told .0 .0) (went .ensures) (told .1) in
+    let e = header-bad (readHeader (c .before .before .before .before .before .args .s .now)) (went .result)
+    (told .0 .0) (went .ensures) (told .1) in
     rw e (c .unread .ensures ∙ told .1)
 
 read-rows-requires : tie.Need-read-rows-requires
@@ -101,7 +109,8 @@ returns-2 c =
     let b = c .before .before .before .before .before .before in
     let told = c .before .enum-told2 .given in
     let went = c .before .before .before .read-rows in
-    let e = rows-bad (upto (rowAt (bytes b) (header b .outputs)) (b .before .how0 .given .0 .0 .at) (header b .states)) (header b .states) (went .result) _ (told .0 .0) (went .ensures) (told .1) in
+    let e = rows-bad (upto (rowAt (bytes b) (header b .outputs)) (b .before .how0 .given .0 .0 .at) (header b .states))
+    (header b .states) (went .result) _ (told .0 .0) (went .ensures) (told .1) in
     rw (head-is b, e) (c .unread2 .ensures ∙ told .1)
 
 read-transitions-requires : tie.Need-read-transitions-requires
@@ -115,14 +124,16 @@ returns-3 c =
     let told = c .before .enum-told3 .given in
     let went = c .before .before .before .read-transitions in
     let read = transitionAt (bytes b) (header b .states) (header b .inputs) in
-    let e = arrows-bad (bytes b) (header b .inputs) (upto read (d .before .how1 .given .0 .0 .at) (header b .transitions)) (header b .transitions) (went .result) _ (told .0 .0) (went .ensures) (told .1) in
+    let e = arrows-bad (bytes b) (header b .inputs) (upto read (d .before .how1 .given .0 .0 .at)
+    (header b .transitions)) (header b .transitions) (went .result) _ (told .0 .0) (went .ensures) (told .1) in
     rw (head-is b, rows-are d .1, e) (c .unread3 .ensures ∙ told .1)
 
 ends-here-requires : tie.Need-ends-here-requires
 ends-here-requires c κs =
     let d = from2 c in
     let b = from1 d in
-    let next = transitions-next (bytes b) (header b .states) (header b .inputs) (d .before .how1 .given .0 .0 .at) (header b .transitions) (headed b .transitions .1) (arrows-are c .1) in
+    let next = transitions-next (bytes b) (header b .states) (header b .inputs) (d .before .how1 .given .0 .0 .at)
+    (header b .transitions) (headed b .transitions .1) (arrows-are c .1) in
     omega (arith, rows-end d)
 
 cast-t23 : tie.Need-cast-t23

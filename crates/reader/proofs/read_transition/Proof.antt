@@ -10,8 +10,10 @@ use Rattle.reader.proofs.read_transition.Tie as tie
 
 -- the states that it names
 named : (c : tie.After-known-told)
-    → namesAt (c .before .before .before .before .before .args .s .now) (c .before .before .before .before .before .args .n) (c .before .before .before .before .before .args .c .at)
-    ≡ ok (record { source = c .before .g .given .0 .0; destination = c .before .g .given .0 .1 .0 }) (c .before .g .given .0 .1 .1 .0 .at)
+    → namesAt (c .before .before .before .before .before .args .s .now)
+    (c .before .before .before .before .before .args .n) (c .before .before .before .before .before .args .c .at)
+    ≡ ok (record { source = c .before .g .given .0 .0; destination = c .before .g .given .0 .1 .0 })
+    (c .before .g .given .0 .1 .1 .0 .at)
 named c = names-got _ _ _ _ (sym (c .before .before .before .read-names .ensures) ∙ c .before .g .given .1)
 
 read-rest-requires : tie.Need-read-rest-requires
@@ -29,7 +31,8 @@ returns-2 : tie.Need-returns-2
 returns-2 c =
     let a = c .before .before .before .before .before .args in
     let bad = c .before .g2 .given in
-    let e = names-bad (namesAt (a .s .now) (a .n) (a .c .at)) (bad .0 .0) (sym (c .before .before .before .read-names .ensures) ∙ bad .1) in
+    let e = names-bad (namesAt (a .s .now) (a .n) (a .c .at)) (bad .0 .0)
+    (sym (c .before .before .before .read-names .ensures) ∙ bad .1) in
     rw (transition-is (a .s .now) (a .n) (a .k) (a .c .at), e) refl
 
 pub read-transition-spec : {M : Type 1} → statement M

@@ -20,7 +20,8 @@ returns-2 c =
     let opened = c .before .before .before .before .open-sheet in
     let a = c .before .before .before .before .before .before .before .before .args in
     let good = opened .ensures .good (c .before .before .enum-told .given .1) in
-    c .scanned-with2 .ensures ∙ ap accepted (c .before .state-with2 .ensures) ∙ sym (cold-is (a .sheet .now) (opened .result) _ _ good)
+    c .scanned-with2 .ensures ∙ ap accepted (c .before .state-with2 .ensures)
+    ∙ sym (cold-is (a .sheet .now) (opened .result) _ _ good)
 
 pub cold-scan-spec : {M : Type 1} → statement M
 cold-scan-spec =

@@ -24,7 +24,8 @@ loop-holds c = refl
 
 -- what the code tells of arrow i
 tested : (c : tie.After-breaks Inv-loop μ-loop)
-    → breaksArrow (c .before .before .before .before .before .args .rule) (arrowAt (c .before .before .before .before .before .args .arrows .now) (c .before .before .before .before .loop .i))
+    → breaksArrow (c .before .before .before .before .before .args .rule)
+    (arrowAt (c .before .before .before .before .before .args .arrows .now) (c .before .before .before .before .loop .i))
     ≡ c .breaks .result
 tested c =
     let a = c .before .before .before .before .before .args in
@@ -35,14 +36,16 @@ unfolding firstBreak
 returns c =
     let a = c .before .before .before .before .before .before .args in
     let l = c .before .before .before .before .before .loop in
-    sym (first-hit (λ j. breaksArrow (a .rule) (arrowAt (a .arrows .now) j)) (l .i) (a .m) (omega arith) (l .inv) (tested (c .before) ∙ c .if1 .taken))
+    sym (first-hit (λ j. breaksArrow (a .rule) (arrowAt (a .arrows .now) j)) (l .i) (a .m) (omega arith) (l .inv)
+    (tested (c .before) ∙ c .if1 .taken))
 
 loop-again : tie.Need-loop-again Inv-loop μ-loop
 unfolding firstBreak
 loop-again c =
     let a = c .before .before .before .before .before .before .args in
     let l = c .before .before .before .before .before .loop in
-    first-more (λ j. breaksArrow (a .rule) (arrowAt (a .arrows .now) j)) (l .i) (l .inv) (tested (c .before) ∙ c .if1 .left)
+    first-more (λ j. breaksArrow (a .rule) (arrowAt (a .arrows .now) j)) (l .i) (l .inv)
+    (tested (c .before) ∙ c .if1 .left)
 
 returns-2 : tie.Need-returns-2 Inv-loop μ-loop
 unfolding firstBreak

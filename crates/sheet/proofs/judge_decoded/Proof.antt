@@ -28,18 +28,24 @@ many c = c .before .before .before .args .d .transitions
 no-loop : (c : tie.After-enum-told) → firstBreak rule.Loop (arrows c) (many c) ≡ Nothing
 no-loop c = sym (c .before .before .first-arrow .ensures) ∙ c .enum-told .given .1
 
-pair-is : (c : tie.After-first-clash) → firstClash clash.Pair (arrows (from1 c)) (many (from1 c)) ≡ c .first-clash .result
-pair-is c = sym (c .first-clash .ensures ∙ by-keys clash.Pair (arrows (from1 c)) (many (from1 c)) _ (c .before .before .keys-of .ensures))
+pair-is : (c : tie.After-first-clash)
+    → firstClash clash.Pair (arrows (from1 c)) (many (from1 c)) ≡ c .first-clash .result
+pair-is c =
+    let keys = c .before .before .keys-of .ensures in
+    sym (c .first-clash .ensures ∙ by-keys clash.Pair (arrows (from1 c)) (many (from1 c)) _ keys)
 
-no-pair : (c : tie.After-enum-told2) → firstClash clash.Pair (arrows (from1 (c .before .before))) (many (from1 (c .before .before))) ≡ Nothing
+no-pair : (c : tie.After-enum-told2) → let b = from1 (c .before .before) in
+    firstClash clash.Pair (arrows b) (many b) ≡ Nothing
 no-pair c = pair-is (c .before .before) ∙ c .enum-told2 .given .1
 
-rank-is : (c : tie.After-first-clash2) → let b = from1 (from2 c .before .before) in firstClash clash.Rank (arrows b) (many b) ≡ c .first-clash2 .result
+rank-is : (c : tie.After-first-clash2) → let b = from1 (from2 c .before .before) in
+    firstClash clash.Rank (arrows b) (many b) ≡ c .first-clash2 .result
 rank-is c =
     let b = from1 (from2 c .before .before) in
     sym (c .first-clash2 .ensures ∙ by-keys clash.Rank (arrows b) (many b) _ (c .before .before .keys-of2 .ensures))
 
-no-rank : (c : tie.After-enum-told3) → let b = from1 (from2 (c .before .before) .before .before) in firstClash clash.Rank (arrows b) (many b) ≡ Nothing
+no-rank : (c : tie.After-enum-told3) → let b = from1 (from2 (c .before .before) .before .before) in
+    firstClash clash.Rank (arrows b) (many b) ≡ Nothing
 no-rank c = rank-is (c .before .before) ∙ c .enum-told3 .given .1
 
 returns : tie.Need-returns
@@ -59,14 +65,16 @@ unfolding judgeArrows
 returns-3 c s a k =
     let f = c .before .before .before in
     let p = from2 f in
-    rw (← judge-same s _ _ _ a k) (rw (no-loop (from1 (p .before .before)), no-pair p, rank-is f ∙ c .before .rank .given .1))
+    let none = no-loop (from1 (p .before .before)) in
+    rw (← judge-same s _ _ _ a k) (rw (none, no-pair p, rank-is f ∙ c .before .rank .given .1))
 
 returns-4 : tie.Need-returns-4
 unfolding judgeArrows
 returns-4 c s a k =
     let r = c .before .before in
     let p = from2 (r .before .before) in
-    rw (← judge-same s _ _ _ a k) (rw (c .judge-forms .ensures, no-loop (from1 (p .before .before)), no-pair p, no-rank r))
+    let none = no-loop (from1 (p .before .before)) in
+    rw (← judge-same s _ _ _ a k) (rw (c .judge-forms .ensures, none, no-pair p, no-rank r))
 
 pub judge-decoded-spec : {M : Type 1} → statement M
 judge-decoded-spec =

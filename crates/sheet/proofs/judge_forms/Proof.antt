@@ -15,13 +15,16 @@ from1 c = c .before .before .before
 abbrev from2 : tie.After-enum-told3 → tie.After-enum-told2
 from2 c = c .before .before .before
 
-homes-there : (c : tie.After-enum-told) → let a = c .before .before .before .args in firstBelow (lacksHomeArrow (a .arrows .now) (a .m)) (a .n) ≡ Nothing
+homes-there : (c : tie.After-enum-told) → let a = c .before .before .before .args in
+    firstBelow (lacksHomeArrow (a .arrows .now) (a .m)) (a .n) ≡ Nothing
 homes-there c = sym (c .before .before .first-no-home .ensures) ∙ c .enum-told .given .1
 
-forms-right : (c : tie.After-enum-told2) → let a = from1 c .before .before .before .args in firstBreak rule.HomeForm (a .arrows .now) (a .m) ≡ Nothing
+forms-right : (c : tie.After-enum-told2) → let a = from1 c .before .before .before .args in
+    firstBreak rule.HomeForm (a .arrows .now) (a .m) ≡ Nothing
 forms-right c = sym (c .before .before .first-arrow .ensures) ∙ c .enum-told2 .given .1
 
-gates-right : (c : tie.After-enum-told3) → let a = from1 (from2 c) .before .before .before .args in firstBreak rule.Gate (a .arrows .now) (a .m) ≡ Nothing
+gates-right : (c : tie.After-enum-told3) → let a = from1 (from2 c) .before .before .before .args in
+    firstBreak rule.Gate (a .arrows .now) (a .m) ≡ Nothing
 gates-right c = sym (c .before .before .first-arrow2 .ensures) ∙ c .enum-told3 .given .1
 
 returns : tie.Need-returns

@@ -24,7 +24,8 @@ loop-again : tie.Need-loop-again Inv-loop μ-loop
 loop-again c =
     let a = c .before .before .before .before .before .args in
     let l = c .before .before .before .before .loop in
-    let is : c .key .result ≡ keyOf (a .clash) (arrowAt (a .arrows .now) (l .i)) = c .key .ensures ∙ ap (keyOf (a .clash)) (c .before .unpacked .ensures) in
+    let is : c .key .result ≡ keyOf (a .clash) (arrowAt (a .arrows .now) (l .i)) = c .key .ensures
+    ∙ ap (keyOf (a .clash)) (c .before .unpacked .ensures) in
     let more = keys-more (a .clash) (a .arrows .now) (l .keys) (l .i) (omega arith) (l .inv .2) in (
       length-set (l .keys) (l .i) _ ∙ l .inv .0,
       omega arith,
