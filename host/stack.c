@@ -269,5 +269,5 @@ int main(void)
     }
     printf("\nThe library takes at most %zu bytes in these calls, and %zu where one is the first of its program.\n", largest,
            first_call);
-    return 0;
+    return largest > 8192 || first_call > 8192; /* what the header promises */
 }

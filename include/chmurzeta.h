@@ -41,7 +41,7 @@
  * instruction, so that bytes which are reserved and never written count too; and 5,512 where the first call of a
  * program binds memset or memcpy late, on the stack of that call. The loader's share of that differs by machine.
  *
- * Registers: the calls use xmm0 to xmm15 besides the general ones, as any C code for x86-64 may. An interrupt handler
+ * Registers: the calls use xmm registers besides the general ones, as any C code for x86-64 may. An interrupt handler
  * that calls saves them first, and so does the switch of tasks.
  *
  *
