@@ -1,34 +1,40 @@
 /*
  * stack.c: how much stack each call takes, measured. A call runs on a stack
- * of its own that was painted before; what is no longer paint was used. The
- * most over the largest sheets, the deepest conditions, and random sheets and
- * code, right and spoilt, is given, less what an empty call takes.
+ * of its own, instruction by instruction, and the lowest stack pointer is
+ * kept, so that bytes which are reserved and never written count too. The
+ * stack was painted before: what a leaf writes below its stack pointer is
+ * seen by that. The most over the largest sheets, the deepest conditions, and
+ * random sheets and code, right and spoilt, is given, counted from the stack
+ * pointer before the call; and that of a program's first call, which binds
+ * memset late.
  *
- * It is a measurement and not a bound: bytes that a call reserves at the far
- * end and never writes are not seen. The frames themselves can be read in the
- * archive's machine code.
+ * It is a measurement and not a bound. It needs a processor that steps:
+ * an emulator may not.
  */
 
-#define _DEFAULT_SOURCE
+#define _GNU_SOURCE
 
 #include "chmurzeta.h"
 #include "make_code.h"
 #include "make_sheets.h"
 #include "second.h"
 
+#include <signal.h>
 #include <stdio.h>
 #include <string.h>
+#include <sys/wait.h>
 #include <ucontext.h>
+#include <unistd.h>
 
 enum { STACK = 1 << 18, PAINT = 0x5A };
 
 static uint8_t area[STACK];
 static ucontext_t here, there;
 
-enum call { NOTHING, CHECK_SHEET, CHECK_CODE, TRANSLATE, COLD_SCAN, COLD_RUN, SCAN, RUN, CALLS };
+enum call { CHECK_SHEET, CHECK_CODE, TRANSLATE, COLD_SCAN, COLD_RUN, SCAN, RUN, CALLS };
 
-static const char *const call_name[CALLS] = {"nothing",   "check_sheet", "check_code", "translate",
-                                             "cold_scan", "cold_run",    "scan",       "run"};
+static const char *const call_name[CALLS] = {"check_sheet", "check_code", "translate", "cold_scan",
+                                             "cold_run",    "scan",       "run"};
 
 /* What the call is given: nothing but this passes to the other stack. */
 static enum call call;
@@ -41,11 +47,44 @@ static uint32_t flags, clock_ms, place, length, elapsed;
 static uint16_t outputs, inputs;
 static volatile uint32_t number;
 
-static void on_its_own_stack(void)
+/* Whether this call is taken in steps. */
+static bool stepped_call;
+
+/* The stack pointer before the call, and the lowest one since. */
+static volatile uintptr_t entry, lowest;
+static uint8_t signal_area[1 << 16];
+
+static void step(int number_of_signal, siginfo_t *info, void *context)
+{
+    (void)number_of_signal;
+    (void)info;
+    uintptr_t at = (uintptr_t)((ucontext_t *)context)->uc_mcontext.gregs[REG_RSP];
+    if (at >= (uintptr_t)area && at < lowest) {
+        lowest = at;
+    }
+}
+
+/* The trap flag of the processor: a signal after each instruction. */
+static void stepping(bool on)
+{
+    if (on) {
+        __asm__ volatile("pushfq\n\torq $0x100, (%%rsp)\n\tpopfq" ::: "cc", "memory");
+    } else {
+        __asm__ volatile("pushfq\n\tandq $~0x100, (%%rsp)\n\tpopfq" ::: "cc", "memory");
+    }
+}
+
+static void take_steps(void)
+{
+    stack_t other = {.ss_sp = signal_area, .ss_size = sizeof signal_area};
+    struct sigaction action = {.sa_sigaction = step, .sa_flags = SA_SIGINFO | SA_ONSTACK};
+    sigaltstack(&other, NULL);
+    sigaction(SIGTRAP, &action, NULL);
+}
+
+static void make_call(void)
 {
     switch (call) {
-    case NOTHING:
-        break;
     case CHECK_SHEET:
         number = (second ? second_check_sheet : chz_check_sheet)(bytes, len, &place);
         break;
@@ -70,8 +109,19 @@ static void on_its_own_stack(void)
     }
 }
 
+static void on_its_own_stack(void)
+{
+    __asm__ volatile("movq %%rsp, %0" : "=r"(entry));
+    if (stepped_call) {
+        stepping(true);
+    }
+    make_call();
+    stepping(false);
+}
+
 static size_t used(void)
 {
+    lowest = (uintptr_t)area + sizeof area;
     memset(area, PAINT, sizeof area);
     getcontext(&there);
     there.uc_stack.ss_sp = area;
@@ -83,23 +133,64 @@ static size_t used(void)
     while (clean < sizeof area && area[clean] == PAINT) {
         clean++;
     }
-    return sizeof area - clean;
+    uintptr_t written = (uintptr_t)area + clean;
+    return entry - (written < lowest ? written : lowest);
 }
 
 static size_t most[2][CALLS];
 
+/* A call in steps takes long, so only one that has written more than any before is made again so. */
+static size_t written_most[CALLS];
+
 static void ask(enum call which, const uint8_t *b, size_t n)
 {
     for (int who = 0; who < 2; who++) {
+        uint8_t old_state = state;
+        uint32_t old_flags = flags;
         second = who == 1;
         call = which;
         bytes = b;
         len = n;
+        stepped_call = false;
         size_t u = used();
+        if (who == 0 && u > written_most[which]) {
+            written_most[which] = u;
+            state = old_state;
+            flags = old_flags;
+            stepped_call = true;
+            u = used();
+        }
+        state = old_state;
+        flags = old_flags;
         if (u > most[who][which]) {
             most[who][which] = u;
         }
     }
+}
+
+/* What a call takes that is the first of its program. */
+static size_t as_first(enum call which, const uint8_t *b, size_t n)
+{
+    size_t u = 0;
+    int ends[2];
+    if (pipe(ends) != 0) {
+        return 0;
+    }
+    if (fork() == 0) {
+        call = which;
+        bytes = b;
+        len = n;
+        stepped_call = true;
+        u = used();
+        _exit(write(ends[1], &u, sizeof u) != (ssize_t)sizeof u);
+    }
+    if (read(ends[0], &u, sizeof u) != (ssize_t)sizeof u) {
+        u = 0;
+    }
+    wait(NULL);
+    close(ends[0]);
+    close(ends[1]);
+    return u;
 }
 
 static struct plan plan;
@@ -135,9 +226,20 @@ int main(void)
     struct expected e;
     dice_seed(&d, 20240611, 9);
 
-    ask(NOTHING, NULL, 0);
+    take_steps();
     plan_two_contact(&plan);
     pack(&plan, &packed);
+    size_t first_call = 0;
+    for (int c = CHECK_SHEET; c < CALLS; c++) {
+        size_t u = as_first((enum call)c, packed.bytes, packed.len);
+        first_call = u > first_call ? u : first_call;
+    }
+    for (int c = CHECK_SHEET; c < CALLS; c++) { /* bound from here on */
+        call = (enum call)c;
+        bytes = packed.bytes;
+        len = packed.len;
+        (void)used();
+    }
     ask_sheet();
     for (uint32_t states = 12; states <= 32; states++) {
         plan_largest(&plan, &d, states);
@@ -163,10 +265,10 @@ int main(void)
     size_t largest = 0;
     printf("| Call | Library, bytes of stack | Second program, bytes of stack |\n|---|---:|---:|\n");
     for (int c = CHECK_SHEET; c < CALLS; c++) {
-        size_t library = most[0][c] - most[0][NOTHING];
-        printf("| %s | %zu | %zu |\n", call_name[c], library, most[1][c] - most[1][NOTHING]);
-        largest = library > largest ? library : largest;
+        printf("| %s | %zu | %zu |\n", call_name[c], most[0][c], most[1][c]);
+        largest = most[0][c] > largest ? most[0][c] : largest;
     }
-    printf("\nThe library takes at most %zu bytes in these calls.\n", largest);
-    return 0;
+    printf("\nThe library takes at most %zu bytes in these calls, and %zu where one is the first of its program.\n", largest,
+           first_call);
+    return largest > 8192 || first_call > 8192; /* what the header promises */
 }

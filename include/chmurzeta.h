@@ -37,8 +37,12 @@
  * handler may call while a task is inside a call, as long as they do not
  * share the memory that they write.
  *
- * Stack: at most 8192 bytes for any one call, its callees included. 3,704 were measured at the most, and 5,352 where
- * the first call of a program binds memset late, on the stack of that call.
+ * Stack: at most 8192 bytes for any one call, its callees included. 3,808 were measured at the most, instruction by
+ * instruction, so that bytes which are reserved and never written count too; and 5,512 where the first call of a
+ * program binds memset or memcpy late, on the stack of that call. The loader's share of that differs by machine.
+ *
+ * Registers: the calls use xmm registers besides the general ones, as any C code for x86-64 may. An interrupt handler
+ * that calls saves them first, and so does the switch of tasks.
  *
  *
  * WHAT EVERY CALL ANSWERS
@@ -92,8 +96,9 @@
  *
  * HOW TO LINK
  *
- * The calls are in librecorder.a, a static library for x86-64 Linux with
- * nothing else to link:
+ * The calls are in librecorder.a, a static library for x86-64 Linux. It needs
+ * two functions, memcpy and memset, which any C library has; firmware without
+ * one gives its own. There is nothing else to link:
  *
  *     cc -O2 -Iinclude firmware.c librecorder.a -o firmware
  *

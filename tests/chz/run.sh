@@ -430,6 +430,17 @@ if command -v timeout >/dev/null; then
     hold launcher-interrupted
 fi
 
+# An installed launcher is this one with a line of its own between the marks.
+if [ "$(uname -m)" = x86_64 ]; then
+    mkdir -p 'in stalled'
+    cp "$root/target/bin/chz" 'in stalled/chz'
+    sed "/^# ---- where/,/^# ---- how/c\\
+program='$room/in stalled/chz'" "$root/chz" >installed
+    chmod +x installed
+    PATH=/usr/bin:/bin ./installed check tail.sheet >out 2>err
+    tell installed $?
+fi
+
 # The build shows how far it is: a launcher in a folder of its own, with an rt that only says what rt says.
 if [ "$(uname -m)" = x86_64 ]; then
     mkdir -p "build here/crates" bin
