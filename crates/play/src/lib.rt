@@ -312,7 +312,7 @@ fn read_on(p: Play, fd: i32, sheet: &[u8], code: &[u8], page: &mut [u8]) -> Play
     part_taken(q, &part[..n], sheet, code, page)
 }
 
-// The whole trace. The loop counts its turns down from a number that no run uses up, since nothing says that a file ends.
+// The whole trace. The loop counts its turns down from a number that no run uses up: nothing says that a file ends.
 pub fn all_read(p: Play, fd: i32, sheet: &[u8], code: &[u8], page: &mut [u8]) -> Play {
     let mut r = p;
     let mut turns = u64::MAX;

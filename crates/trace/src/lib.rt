@@ -45,7 +45,7 @@ pub struct Span {
     pub most: u32,
 }
 
-// An entry as far as it was read: its phase, whether a byte was read at all and a carriage return last, whether it holds
+// An entry as far as it was read: its phase, whether a byte was read at all and a carriage return last, whether it has
 // a whole scan, its input word with the count of bits, its ms.
 pub struct Entry {
     pub phase: u8,
@@ -226,18 +226,28 @@ fn put_expected_bits(out: &mut [u8], at: usize, entry: Entry, span: Span) -> usi
 
 // What was expected of the rest, from the missing ms on.
 fn put_expected_rest(out: &mut [u8], at: usize, fault: u32) -> usize {
+    if fault == 0 {
+        return put(
+            out,
+            at,
+            b"the elapsed ms after the input bits, as in '110 99'",
+        );
+    }
     if fault <= 2 {
         return put_nth(
             out,
             at,
-            b"the elapsed ms after the input bits, as in '110 99'|the elapsed ms in digits, as in '110 99'|at most 4294967295 ms|",
+            b"|the elapsed ms in digits, as in '110 99'|at most 4294967295 ms|",
             fault,
         );
+    }
+    if fault == 3 {
+        return put(out, at, b"the line's end after the ms, or a comment with #");
     }
     put_nth(
         out,
         at,
-        b"|||the line's end after the ms, or a comment with #|a line feed after the carriage return|a line end, and the trace ends before it|",
+        b"||||a line feed after the carriage return|a line end, and the trace ends before it|",
         fault,
     )
 }
