@@ -353,6 +353,8 @@ if [ "$(id -u)" != 0 ] || $user "$root/chz" version >/dev/null 2>&1; then
     tell translate-read-only-folder $?
     chmod 755 kept
     whole translate-read-only-whole && same translate-read-only-kept kept/two.code old.bytes
+else
+    echo 'skipped: the tests with a read-only folder need a user who is not root and reaches this one'
 fi
 
 # The same at every call that the program makes on a file, by a library that is loaded before it.
@@ -411,16 +413,21 @@ if [ -z "$(ls -A elsewhere/repo)" ]; then verdict cdpath-no-folder yes; else ver
 # Whoever ends the launcher ends the program: nobody reads its pipe then.
 mkfifo slow.pipe
 for signal in TERM HUP; do
-    "$root/chz" run m.sheet slow.pipe >out 2>err &
+    exec 7<>slow.pipe # both ends, so that no open waits
+    "$root/chz" run m.sheet slow.pipe >out 2>err 7<&- &
     launcher=$!
-    exec 7>slow.pipe
     printf '1 5\n' >&7
-    until grep -q moved out || grep -q stayed out; do sleep 0.1; done
+    tries=0
+    until grep -q stayed out || [ "$tries" -eq 100 ]; do
+        sleep 0.1
+        tries=$((tries + 1))
+    done
+    exec 8>slow.pipe 7<&-
     kill -s "$signal" "$launcher"
     wait "$launcher" 2>/dev/null
     status=$?
-    if (printf '1 5\n' >&7) 2>/dev/null; then status="$status, and the program still reads"; fi
-    exec 7>&-
+    if (printf '1 5\n' >&8) 2>/dev/null; then status="$status, and the program still reads"; fi
+    exec 8>&-
     echo "$signal: status $status"
 done >got
 hold launcher-ended
