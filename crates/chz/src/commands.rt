@@ -5,11 +5,10 @@ use files::Read;
 use files::Wrote;
 use options::Number;
 use options::Options;
-use play::Play;
-use play::start;
-use play::start::Start;
 use reader::Decoded;
 use reader::How;
+use start::Play;
+use start::Start;
 use text::put;
 use text::put_count;
 
@@ -213,7 +212,7 @@ pub fn translate_command(first: usize, second: usize) -> u8 {
 
 fn play_open(p: Play, fd: i32, name: &[u8], sheet: &[u8], code: &[u8], page: &mut [u8]) -> u8 {
     let q = play::all_read(p, fd, sheet, code, page);
-    let ended = play::tell_end(q, page, name);
+    let ended = ending::tell_end(q, page, name);
     libc::close(fd);
     ended
 }
@@ -265,7 +264,7 @@ fn run_translated(all: &[u8], n: usize, s: Start, word: usize) -> u8 {
         Checked::Refused(_) => tell_refused(libc::STDOUT_FILENO, verdict),
         Checked::Accepted => {
             let length = t.length;
-            run_first(sheet, &code, length, play::TRANSLATED, s, word)
+            run_first(sheet, &code, length, start::TRANSLATED, s, word)
         }
     }
 }
@@ -276,7 +275,7 @@ fn run_first(sheet: &[u8], all: &[u8], n: usize, source: u8, s: Start, word: usi
         return status::FAILED;
     }
     let code = &all[0..n];
-    if source == play::ALONE {
+    if source == start::ALONE {
         return play_trace(start::alone(s), word, sheet, code);
     }
     run_both(sheet, code, source, s, word)
@@ -313,7 +312,7 @@ fn run_given_beside(all: &[u8], n: usize, o: Options, s: Start, word: usize) -> 
     let verdict = sheet::check_sheet(sheet);
     match verdict {
         Checked::Refused(_) => tell_refused(libc::STDOUT_FILENO, verdict),
-        Checked::Accepted => run_given(sheet, o, play::GIVEN, s, word),
+        Checked::Accepted => run_given(sheet, o, start::GIVEN, s, word),
     }
 }
 
@@ -365,7 +364,7 @@ pub fn run_command(sheet: usize, o: Options, word: usize) -> u8 {
         clock: low_word(clock),
     };
     if sheet == 0 {
-        return run_given(b"", o, play::ALONE, s, word);
+        return run_given(b"", o, start::ALONE, s, word);
     }
     run_sheet(sheet, o, s, word)
 }
@@ -379,9 +378,9 @@ fn demo_scans(sheet: &[u8], all: &[u8], n: usize) -> u8 {
     }
     let code = &all[0..n];
     let mut page = io::large_buffer();
-    let p = play::begun(start::cold(sheet, play::TRANSLATED), &mut page);
+    let p = play::begun(start::cold(sheet, start::TRANSLATED), &mut page);
     let q = play::whole_taken(p, &demo::P12, sheet, code, &mut page);
-    play::tell_end(q, &page, b"P12")
+    ending::tell_end(q, &page, b"P12")
 }
 
 // The sheet's verdict and its code's size, as `check` and `translate` say them.

@@ -1,63 +1,22 @@
 // A trace played, a printed line a scan: code beside the reference, the two compared, or code alone.
-pub mod start;
-mod table;
-
 use answer::Checked;
 use machine::Record;
 use scan::State;
+use start::ALONE;
+use start::AT_END;
+use start::BAD_LINE;
+use start::DIFFER;
+use start::GOING;
+use start::NOT_READ;
+use start::Play;
+use start::flushed;
+use start::plus;
+use start::stopped;
 use text::put;
-use trace::Entry;
-use trace::Span;
-
-// How a trace goes on or ends.
-pub const GOING: u8 = 0;
-
-pub const AT_END: u8 = 1;
-
-const BAD_LINE: u8 = 2;
-
-const DIFFER: u8 = 3;
-
-const NOT_WRITTEN: u8 = 4;
-
-const NOT_READ: u8 = 5;
-
-// Where the code is from.
-pub const TRANSLATED: u8 = 0;
-
-pub const GIVEN: u8 = 1;
-
-pub const ALONE: u8 = 2;
+use text::put_named;
 
 // Room that a printed line never needs more of.
 const ROOM: usize = 256;
-
-// All that is kept between scans: both records, the entry being read, and how much of the page is filled.
-pub struct Play {
-    pub how: u8,
-    pub source: u8,
-    pub cold: bool,
-    pub span: Span,
-    pub outputs: u32,
-    pub lines: u64,
-    pub scans: u64,
-    pub time: u64,
-    pub used: usize,
-    pub entry: Entry,
-    pub record: Record,
-    pub state: State,
-}
-
-// Times and counts stand still at the top, which no trace reaches.
-fn plus(a: u64, b: u64) -> u64 {
-    if a <= u64::MAX - b { a + b } else { u64::MAX }
-}
-
-fn stopped(p: Play, how: u8) -> Play {
-    let mut r = p;
-    r.how = how;
-    r
-}
 
 // Whether the runner's record is the reference's: its one flag is the state's, outputs and clock are the same.
 fn agree(record: Record, state: State) -> bool {
@@ -187,17 +146,6 @@ fn turned(p: Play, page: &[u8]) -> Play {
     flushed(p, page)
 }
 
-// Writes out the page.
-fn flushed(p: Play, page: &[u8]) -> Play {
-    let written = files::write_first(libc::STDOUT_FILENO, page, p.used);
-    let mut r = p;
-    r.used = 0;
-    if written {
-        return r;
-    }
-    stopped(r, NOT_WRITTEN)
-}
-
 // The scan of an entry that has one, printed.
 fn played(p: Play, sheet: &[u8], code: &[u8], page: &mut [u8]) -> Play {
     let before = p.record;
@@ -324,88 +272,4 @@ pub fn all_read(p: Play, fd: i32, sheet: &[u8], code: &[u8], page: &mut [u8]) ->
         }
     }
     r
-}
-
-fn put_named(out: &mut [u8], at: usize, name: &[u8], n: u64) -> usize {
-    let a = put(out, at, name);
-    text::put_number(out, a, n)
-}
-
-// A bad line: its number, and what was expected.
-fn tell_bad_line(p: Play, name: &[u8]) -> u8 {
-    let mut out = io::large_buffer();
-    let entry = p.entry;
-    let span = p.span;
-    let a = put(&mut out, 0, b"chz: ");
-    let b = text::put_name(&mut out, a, name);
-    let c = put_named(&mut out, b, b", line ", plus(p.lines, 1));
-    let d = put(&mut out, c, b": expected ");
-    let e = trace::put_expected(&mut out, d, entry, span);
-    let f = put(&mut out, e, b"\n");
-    files::write_first(libc::STDERR_FILENO, &out, f);
-    status::FAILED
-}
-
-fn put_code_record(out: &mut [u8], at: usize, record: Record) -> usize {
-    let a = put_named(out, at, b"code: flag word ", record.flags as u64);
-    let b = put_named(out, a, b", output word ", record.outputs as u64);
-    let c = put_named(out, b, b", clock ", record.clock as u64);
-    put(out, c, b"\n")
-}
-
-fn put_reference(out: &mut [u8], at: usize, state: State) -> usize {
-    let a = put_named(out, at, b"reference: state ", state.state as u64);
-    let b = put_named(out, a, b", output word ", state.outputs as u64);
-    let c = put_named(out, b, b", clock ", state.clock as u64);
-    put(out, c, b"\n")
-}
-
-fn put_difference(out: &mut [u8], at: usize, p: Play) -> usize {
-    let record = p.record;
-    let state = p.state;
-    let a = text::put_number(out, at, p.scans);
-    let b = put(out, a, b"\n");
-    let c = put_code_record(out, b, record);
-    put_reference(out, c, state)
-}
-
-// That the translated code differs is proved impossible: whoever reads that has a broken machine or a broken build.
-// Code that was given may differ: it does not do what the sheet says.
-fn tell_difference(p: Play) -> u8 {
-    let mut out = [0u8; 512];
-    if p.source == GIVEN {
-        let a = put(
-            &mut out,
-            0,
-            b"differs: the code from the reference, in scan ",
-        );
-        let b = put_difference(&mut out, a, p);
-        return status::tell(&out, b, status::REFUSED);
-    }
-    let a = put(
-        &mut out,
-        0,
-        b"chz: CODE AND REFERENCE DIFFER, use neither: scan ",
-    );
-    let b = put_difference(&mut out, a, p);
-    files::write_first(libc::STDERR_FILENO, &out, b);
-    status::FAILED
-}
-
-// What a trace ended with, once all that stands on the page is written.
-pub fn tell_end(p: Play, page: &[u8], name: &[u8]) -> u8 {
-    if p.how == NOT_READ {
-        return status::file_fault(name);
-    }
-    let q = flushed(p, page);
-    if q.how == NOT_WRITTEN {
-        return status::file_fault(b"standard output");
-    }
-    if p.how == BAD_LINE {
-        return tell_bad_line(p, name);
-    }
-    if p.how == DIFFER {
-        return tell_difference(p);
-    }
-    status::ACCEPTED
 }

@@ -164,3 +164,9 @@ pub fn put_count(out: &mut [u8], at: usize, n: u64, noun: &[u8]) -> usize {
     }
     put_byte(out, c, b's')
 }
+
+// A name and a number.
+pub fn put_named(out: &mut [u8], at: usize, name: &[u8], n: u64) -> usize {
+    let a = put(out, at, name);
+    put_number(out, a, n)
+}

@@ -1,12 +1,46 @@
-// The records that a run begins with: the cold start, or a state and a clock that were asked for.
-use crate::ALONE;
-use crate::GOING;
-use crate::Play;
+// What is kept of a run between scans, and the records that it begins with: the cold start, or a state and a clock that were asked for.
 use answer::Checked;
 use machine::Record;
 use reader::Decoded;
 use scan::State;
+use trace::Entry;
 use trace::Span;
+
+// How a trace goes on or ends.
+pub const GOING: u8 = 0;
+
+pub const AT_END: u8 = 1;
+
+pub const BAD_LINE: u8 = 2;
+
+pub const DIFFER: u8 = 3;
+
+pub const NOT_WRITTEN: u8 = 4;
+
+pub const NOT_READ: u8 = 5;
+
+// Where the code is from.
+pub const TRANSLATED: u8 = 0;
+
+pub const GIVEN: u8 = 1;
+
+pub const ALONE: u8 = 2;
+
+// All that is kept between scans: both records, the entry being read, and how much of the page is filled.
+pub struct Play {
+    pub how: u8,
+    pub source: u8,
+    pub cold: bool,
+    pub span: Span,
+    pub outputs: u32,
+    pub lines: u64,
+    pub scans: u64,
+    pub time: u64,
+    pub used: usize,
+    pub entry: Entry,
+    pub record: Record,
+    pub state: State,
+}
 
 // Where a run begins: a state and a clock, or the cold start.
 pub struct Start {
@@ -110,4 +144,26 @@ pub fn alone(s: Start) -> Play {
 pub fn judged(sheet: &[u8], s: Start) -> Checked {
     let referred = scan::scan(sheet, state_at(s, 0), 0, 0);
     referred.verdict
+}
+
+// Times and counts stand still at the top, which no trace reaches.
+pub fn plus(a: u64, b: u64) -> u64 {
+    if a <= u64::MAX - b { a + b } else { u64::MAX }
+}
+
+pub fn stopped(p: Play, how: u8) -> Play {
+    let mut r = p;
+    r.how = how;
+    r
+}
+
+// Writes out the page.
+pub fn flushed(p: Play, page: &[u8]) -> Play {
+    let written = files::write_first(libc::STDOUT_FILENO, page, p.used);
+    let mut r = p;
+    r.used = 0;
+    if written {
+        return r;
+    }
+    stopped(r, NOT_WRITTEN)
 }
