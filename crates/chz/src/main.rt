@@ -1,7 +1,7 @@
 // The command line: a thin program over the proved library.
-mod commands;
 mod demo;
 mod help;
+mod show;
 
 use options::Options;
 
@@ -71,10 +71,10 @@ fn check_with(o: Options) -> u8 {
         return check_usage();
     }
     if (o.code != 0) & (o.first == 0) {
-        return commands::check_code_command(o.code);
+        return report::check_code_command(o.code);
     }
     if (o.code == 0) & (o.first != 0) {
-        return commands::check_command(o.first);
+        return report::check_command(o.first);
     }
     check_usage()
 }
@@ -89,7 +89,7 @@ fn is_plain(o: Options) -> bool {
 
 fn translate_with(o: Options) -> u8 {
     if is_plain(o) & (o.second != 0) & (o.third == 0) {
-        return commands::translate_command(o.first, o.second);
+        return rewrite::translate_command(o.first, o.second);
     }
     status::usage_fault(b"translate takes two files: chz translate SHEET CODE")
 }
@@ -98,10 +98,10 @@ fn translate_with(o: Options) -> u8 {
 fn run_with(o: Options) -> u8 {
     let named = (o.code != 0) | (o.sheet != 0);
     if named & (o.first != 0) & (o.second == 0) {
-        return commands::run_command(o.sheet, o, o.first);
+        return running::run_command(o.sheet, o, o.first);
     }
     if !named & (o.second != 0) & (o.third == 0) {
-        return commands::run_command(o.first, o, o.second);
+        return running::run_command(o.first, o, o.second);
     }
     status::usage_fault(
         b"run takes a sheet and a trace: chz run SHEET TRACE, or chz run --code CODE TRACE",
@@ -110,7 +110,7 @@ fn run_with(o: Options) -> u8 {
 
 fn demo_with(o: Options) -> u8 {
     if is_plain(o) & (o.first == 0) {
-        return commands::demo_command();
+        return show::demo_command();
     }
     status::usage_fault(b"demo takes no file")
 }
