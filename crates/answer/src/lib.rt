@@ -1,4 +1,6 @@
 // The numbers answered, with places: document 01's table with the numbers that document 02 adds, and the search for the lowest place.
+#![tactic(auto)]
+
 ghost use Rattle.std.specs.Prelude.{◌≡◌};
 ghost use Rattle.answer.specs.Number as numbers;
 ghost use Rattle.answer.specs.Number.{number_of, place_of};

@@ -1,4 +1,6 @@
 // Bits: a field of a bit-packed byte string, most significant bit first; and a bit of a word, bit i having weight 2^i.
+#![tactic(auto)]
+
 ghost use Rattle.std.specs.Prelude.{◌≡◌, true, false, ◌+◌, ◌*◌, ◌-◌, ◌/◌, ◌%◌, ◌^◌, ◌≤◌, ◌<◌, length};
 ghost use Rattle.bits.specs.Field.{reach, num_at, field_at};
 ghost use Rattle.bits.specs.Word.{get_bit, put_bit};

@@ -1,4 +1,6 @@
 // The clock: a scan brings it forward by the elapsed time, and it is held at the largest wait.
+#![tactic(auto)]
+
 ghost use Rattle.std.specs.Prelude.{◌≡◌};
 ghost use Rattle.clock.specs.Onward.{onward};
 

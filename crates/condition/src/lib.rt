@@ -1,4 +1,6 @@
 // A condition: a prefix expression of two-bit tags, read from the bits of a sheet. Reading makes no tree; it tells what later work asks for.
+#![tactic(auto)]
+
 ghost use Rattle.std.specs.Prelude.{◌≡◌, ◌+◌, ◌*◌, ◌≤◌, ◌<◌};
 ghost use Rattle.bits.specs.Field.{reach};
 ghost use Rattle.condition.specs.Reading.{cond_at, input_at, operands_at};

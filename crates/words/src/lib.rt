@@ -1,4 +1,6 @@
 // Words and bytes: a word's code byte and operand read from code, and a word written into a buffer.
+#![tactic(auto)]
+
 ghost use Rattle.std.specs.Prelude.{◌≡◌, [], ◌∷◌, ◌+◌, ◌*◌, ◌/◌, ◌%◌, ◌≤◌, ◌<◌, length, get_or};
 ghost use Rattle.words.specs.Word.{Word, word_no, word_at};
 ghost use Rattle.words.specs.inside.Wrote.{Wrote};
