@@ -1,5 +1,4 @@
 -- `condition::read_input` meets its contract. Assumes nothing.
-use borrow.Author.Rules.{rules}
 use borrow.Author.Tests.{lt-ltb, le-ltb, eq-eqb, ne_eqb}
 use mathlib.Core.Path.{sym, ◌∙◌}
 use native.Mathlib.Omega.{arith}
@@ -11,21 +10,21 @@ use Rattle.condition.proofs.read_input.Goals as goal
 
 pub returns-in_default : goal.returns-in_default
 unfolding input_at eval word_count form_of
-returns-in_default c = rw (sym c.field-g.ensures ∙ c.enum_told-1.given.1)
+returns-in_default c = rw (sym c.in_default.ensures)
 
 pub returns-then-inputs-i : goal.returns-then-inputs-i
 unfolding input_at eval word_count form_of
-returns-then-inputs-i c = rw (sym c.field-g.ensures ∙ c.g-1.given.1, le-ltb _ _ c.if-inputs-i.true)
+returns-then-inputs-i c = rw (sym c.in-Field.ensures, le-ltb _ _ c.if-inputs-i.true)
 
 pub get_bit-value-requires : goal.get_bit-value-requires
-get_bit-value-requires c =
-    let e = sym c.field-g.ensures ∙ c.g-1.given.1 in
-    omega (arith, (field-got _ _ _ _ _ e).below)
+get_bit-value-requires c = omega (arith, (field-got _ _ _ _ _ (sym c.in-Field.ensures)).below)
 
 pub returns-then-i-eq0 : goal.returns-then-i-eq0
 unfolding input_at eval word_count form_of
-returns-then-i-eq0 c = rw (sym c.field-g.ensures ∙ c.g-1.given.1, lt-ltb _ _ c.if-inputs-i.false, c.get_bit-value.ensures, eq-eqb _ _ c.if-i-eq0.true)
+returns-then-i-eq0 c =
+    rw (sym c.in-Field.ensures, lt-ltb _ _ c.if-inputs-i.false, c.get_bit-value.ensures, eq-eqb _ _ c.if-i-eq0.true)
 
 pub returns : goal.returns
 unfolding input_at eval word_count form_of
-returns c = rw (sym c.field-g.ensures ∙ c.g-1.given.1, lt-ltb _ _ c.if-inputs-i.false, c.get_bit-value.ensures, ne_eqb _ _ c.if-i-eq0.false)
+returns c =
+    rw (sym c.in-Field.ensures, lt-ltb _ _ c.if-inputs-i.false, c.get_bit-value.ensures, ne_eqb _ _ c.if-i-eq0.false)
