@@ -1,4 +1,4 @@
-// The C boundary: each call answers with plain numbers, and settles what stands behind each pointer.
+// The C boundary, which crate recorder_c exports: each call answers with plain numbers, and settles what stands behind each pointer.
 ghost use Rattle.std.specs.Prelude.{◌≤◌};
 ghost use Rattle.answer.specs.Number.{place_of, farthest};
 ghost use Rattle.scan.specs.Scan.{state_with};
@@ -18,24 +18,21 @@ fn answered(verdict: Checked, place: &mut u32) -> u32
 }
 
 // Judges a sheet.
-#[unsafe(no_mangle)]
-pub extern "C" fn chz_check_sheet(sheet: &[u8], place: &mut u32) -> u32
+pub fn chz_check_sheet(sheet: &[u8], place: &mut u32) -> u32
     ensures { ChzCheckSheet sheet.now result place.new }
 {
     answered(sheet::check_sheet(sheet), place)
 }
 
 // Judges code.
-#[unsafe(no_mangle)]
-pub extern "C" fn chz_check_code(code: &[u8], place: &mut u32) -> u32
+pub fn chz_check_code(code: &[u8], place: &mut u32) -> u32
     ensures { ChzCheckCode code.now result place.new }
 {
     answered(faults::check_code(code), place)
 }
 
 // Writes the code of a sheet.
-#[unsafe(no_mangle)]
-pub extern "C" fn chz_translate(
+pub fn chz_translate(
     sheet: &[u8],
     code: &mut [u8],
     length: &mut u32,
@@ -50,8 +47,7 @@ pub extern "C" fn chz_translate(
 }
 
 // The reference's cold start; what the record held is not read.
-#[unsafe(no_mangle)]
-pub extern "C" fn chz_cold_scan(
+pub fn chz_cold_scan(
     sheet: &[u8],
     state: &mut u8,
     outputs: &mut u16,
@@ -70,8 +66,7 @@ pub extern "C" fn chz_cold_scan(
 }
 
 // The runner's cold start; what the record held is not read.
-#[unsafe(no_mangle)]
-pub extern "C" fn chz_cold_run(
+pub fn chz_cold_run(
     sheet: &[u8],
     flags: &mut u32,
     outputs: &mut u16,
@@ -90,8 +85,7 @@ pub extern "C" fn chz_cold_run(
 }
 
 // One scan of the reference.
-#[unsafe(no_mangle)]
-pub extern "C" fn chz_scan(
+pub fn chz_scan(
     sheet: &[u8],
     state: &mut u8,
     outputs: &mut u16,
@@ -113,8 +107,7 @@ pub extern "C" fn chz_scan(
 }
 
 // One scan of code.
-#[unsafe(no_mangle)]
-pub extern "C" fn chz_run(
+pub fn chz_run(
     code: &[u8],
     flags: &mut u32,
     outputs: &mut u16,
