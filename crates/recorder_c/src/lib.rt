@@ -1,5 +1,6 @@
 // The exports for C: each calls the function of its name in crate recorder, and promises what that promises.
 #![tactic(auto)]
+
 ghost use Rattle.scan.specs.Scan.{state_with};
 ghost use Rattle.machine.specs.Run.{record_with};
 ghost use Rattle.recorder.specs.Calls.{ChzCheckSheet, ChzCheckCode, ChzTranslate, ChzColdScan, ChzColdRun, ChzScan, ChzRun};
