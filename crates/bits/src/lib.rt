@@ -6,13 +6,13 @@ ghost use Rattle.bits.specs.Field.{reach, num_at, field_at};
 ghost use Rattle.bits.specs.Word.{get_bit, put_bit};
 
 // The next bit to be read.
-#[derive(Drop)]
+#[derive(Clone, Copy)]
 pub struct Cursor {
     pub at: usize,
 }
 
 // A field's value with the cursor after it, or no room for it.
-#[derive(Drop)]
+#[derive(Clone, Copy)]
 pub enum Got {
     Field(u32, Cursor),
     Short,
