@@ -1,4 +1,6 @@
 // The check of code: 15 its end, 16 a word at fault, 17 a jump that lands inside a parenthesis.
+#![tactic(auto)]
+
 ghost use Rattle.std.specs.Prelude.{◌≡◌, true, false, ◌&&◌, ◌||◌, map, ℕ, pred, ◌+◌, ◌*◌, ◌≤◌, ◌<◌, length, replicate, eqb, ltb};
 ghost use Rattle.answer.specs.declared.Checked.TheVariants.{Accepted};
 ghost use Rattle.answer.specs.declared.Found.TheVariants.{Nothing};
