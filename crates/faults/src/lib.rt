@@ -30,6 +30,7 @@ enum Pass {
 }
 
 // 15: the end is judged by one byte, so that the rest of the last word is left to 16.
+#[tactic(auto, unfolding(crate::specs::Check::end_fault))]
 fn end_fault(code: &[u8]) -> bool
     ensures { result ≡ end_fault code.now }
 {
