@@ -1,16 +1,10 @@
--- `reader::output_word` meets its contract.
-use mathlib.Core.Path.{◌≡◌, refl, ap, ◌∙◌}
-use Prim.Native.Nat.{ℕ, ◌-◌, ◌/◌, ◌^◌, ◌≤◌, ◌<◌}
-use native.Mathlib.Omega.{arith}
-use lib.Pow.{pow_mono}
+-- `reader::output_word` meets its contract. The invariant: the word is that of the bits taken.
+use Rattle.std.proofs.Common.{◌≡◌, ◌-◌, ◌≤◌}
 use Rattle.bits.specs.Word.{word_of, bits_of}
-use Rattle.bits.proofs.WordLaws.{bits_below}
-use Rattle.reader.proofs.Laws.{word_more}
 use Rattle.reader.proofs.output_word.Given as goal
 
-abbrev pub invariant-None : goal.invariant-None
-invariant-None l = (l.i ≤ l.width) × (l.word ≡ word_of (bits_of l.i l.v))
+abbrev pub invariant-loop-i : goal.invariant-loop-i
+invariant-loop-i l = (l.i ≤ l.width) × (l.word ≡ word_of (bits_of l.i l.v))
 
-abbrev pub decreases-None : goal.decreases-None
-decreases-None l = l.width - l.i
-
+abbrev pub decreases-loop-i : goal.decreases-loop-i
+decreases-loop-i l = l.width - l.i
