@@ -10,7 +10,7 @@ use lib.ListN.{length, get_or, take}
 use lib.Seq.{length-take-le, get_or-take, take_all}
 use Rattle.answer.specs.declared.Refusal.TheVariants as refuse
 use Rattle.bits.specs.Field.{bit_at, num_at}
-use Rattle.bits.specs.Read.{ok, no, guard, read_field, upto}
+use Rattle.bits.specs.Read.{ok, guard, read_field, upto}
 use Rattle.bits.proofs.ReadLaws.{field-read, read_here, bind-both, upto-both}
 use Rattle.condition.specs.Reading.{Counted, input_at, behind, operands_at, node_at, cond_at, condition_at}
 use Rattle.condition.proofs.Laws.{cond-went}

@@ -13,7 +13,7 @@ use Rattle.bits.proofs.ReadLaws.{ok-is, ok-next}
 use Rattle.bits.proofs.WordLaws.{bits-length}
 use Rattle.condition.specs.Cond.{cond_bits}
 use Rattle.condition.specs.Reading.{Counted, condition_at}
-use Rattle.reader.specs.Sheet.{Transition, count}
+use Rattle.reader.specs.Sheet.{Transition}
 use Rattle.reader.specs.Reading.{transition_at}
 use Rattle.format.specs.Fields.{Fields}
 use Rattle.format.specs.Writing.{transition_bits}

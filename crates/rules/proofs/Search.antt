@@ -13,10 +13,10 @@ use Rattle.answer.specs.declared.Checked.{Checked}
 use Rattle.answer.specs.declared.Checked.TheVariants.{Accepted}
 use Rattle.answer.proofs.BoolLaws.{true-false, or-false}
 
-or_at_lem : (f : Found) (b : Bool) (n : ℕ) → or_at f b n ≡ Nothing → (f ≡ Nothing) × (b ≡ false)
-or_at_lem (At i) b n e = true-false cc
-or_at_lem Nothing true n e = true-false cc
-or_at_lem Nothing false n e = (refl, refl)
+or-at : (f : Found) (b : Bool) (n : ℕ) → or_at f b n ≡ Nothing → (f ≡ Nothing) × (b ≡ false)
+or-at (At i) b n e = true-false cc
+or-at Nothing true n e = true-false cc
+or-at Nothing false n e = (refl, refl)
 
 module _ (p : ℕ → Bool) where
   -- a place below suc n is below n or is n
@@ -27,7 +27,7 @@ module _ (p : ℕ → Bool) where
   pub first-none : (n : ℕ) → first_below p n ≡ Nothing → (i : ℕ) → i < n → p i ≡ false
   unfolding first_below
   first-none zero e i l = absurd (omega arith)
-  first-none (suc n) e i l = let q = or_at_lem (first_below p n) (p n) n e in below l (first-none n q.0) q.1
+  first-none (suc n) e i l = let q = or-at (first_below p n) (p n) n e in below l (first-none n q.0) q.1
 
   pub none_first : (n : ℕ) → ((i : ℕ) → i < n → p i ≡ false) → first_below p n ≡ Nothing
   unfolding first_below
