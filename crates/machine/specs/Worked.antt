@@ -1,5 +1,5 @@
 -- P11's code run by hand. Words are written in hex, as the paper writes them.
-use Rattle.std.specs.Prelude.{◌≡◌, refl, List, [], ◌∷◌, map, ℕ}
+use Rattle.std.specs.Prelude.{◌≡◌, refl, [], ◌∷◌, map}
 use Rattle.answer.specs.declared.Checked.TheVariants.{Accepted, Refused}
 use Rattle.answer.specs.declared.Refusal.TheVariants as refuse
 use Rattle.bits.specs.Word.{get_bit, put_bit}

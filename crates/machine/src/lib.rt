@@ -1,4 +1,6 @@
 // The machine: one scan of code that passed its check.
+#![tactic(auto)]
+
 ghost use Rattle.std.specs.Prelude.{◌≡◌, false, List, [], map, ◌+◌, ◌*◌, ◌/◌, ◌%◌, ◌<◌};
 ghost use mir.Val.{bool_byte};
 ghost use Rattle.answer.specs.declared.Checked.TheVariants.{Accepted};
@@ -47,7 +49,7 @@ fn ran_with(verdict: Checked, record: Record) -> Ran
 }
 
 // The machine between two words. What is put aside stands in base 4, the last one in the lowest digit: 2 for AND(, 1 for a true result.
-#[derive(Drop)]
+#[derive(Clone, Copy)]
 struct Midway {
     at: usize,
     result: bool,
@@ -80,6 +82,7 @@ fn put_aside(m: Midway, and: bool) -> Midway
 }
 
 // ): the lowest digit is joined with the result and taken off.
+#[tactic(auto, unfolding(crate::specs::inside::Midway::join_top))]
 fn joined(m: Midway) -> Midway
     requires { m.at < 8192 }
     ensures { result ≡ midway (m.at + 1) (join_top (m.aside % 4) m.result) (m.aside / 4) (mach_in m) }
@@ -98,6 +101,7 @@ fn joined(m: Midway) -> Midway
 }
 
 // R and S.
+#[tactic(auto, unfolding(crate::specs::Machine::flag_to))]
 fn flag_to(m: Midway, i: u32, on: bool) -> Midway
     requires { (m.at < 8192) × (i < 32) }
     ensures { result ≡ midway (m.at + 1) m.result m.aside (flag_to m.result (mach_in m) i on) }
@@ -128,6 +132,7 @@ fn put_output(w: u16, i: u32, on: bool) -> u16
 }
 
 // RA and SA.
+#[tactic(auto, unfolding(crate::specs::Machine::out_to))]
 fn output_to(m: Midway, i: u32, on: bool) -> Midway
     requires { (m.at < 8192) × (i < 16) }
     ensures { result ≡ midway (m.at + 1) m.result m.aside (out_to m.result (mach_in m) i on) }
