@@ -40,4 +40,6 @@ returns-in-Landing c =
     ∙ sym (check-landing c.args.code.now (ended (goal.at.returns-in-Landing c).Else-end_fault) c.in-Landing.ensures)
 
 pub returns-in-Sound : goal.returns-in-Sound
-returns-in-Sound c = sym (check-passed c.args.code.now (ended (goal.at.returns-in-Sound c).Else-end_fault) c.in-Sound.ensures.0 c.in-Sound.ensures.1)
+returns-in-Sound c =
+    let ends = ended (goal.at.returns-in-Sound c).Else-end_fault in
+    sym (check-passed c.args.code.now ends c.in-Sound.ensures.0 c.in-Sound.ensures.1)

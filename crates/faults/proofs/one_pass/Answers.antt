@@ -42,7 +42,8 @@ met c =
     ]
 
 -- what the search found is told with the number of words as the definition has it
-found : (s : List ℕ) {n : ℕ} → n ≡ length (words s) → {f : Found} → first_fault n 0 0 (words s) ≡ f → first_fault (length (words s)) 0 0 (words s) ≡ f
+found : (s : List ℕ) {n : ℕ} → n ≡ length (words s) → {f : Found} → first_fault n 0 0 (words s) ≡ f
+    → first_fault (length (words s)) 0 0 (words s) ≡ f
 found s e h = ap (λ (n : ℕ). first_fault n 0 0 (words s)) (sym e) ∙ h
 
 pub loop-at-init : goal.loop-at-init
@@ -53,13 +54,15 @@ returns-in-Fault c =
     let l = c.loop-at in
     let a = c.args in
     found a.code.now c.requires.0
-    (looking-hit (words a.code.now) a.n l.targets l.landing l.at l.d (omega arith) l.invariant (omega arith) (sym (tested (goal.at.returns-in-Fault c).After-after_word-next) ∙ c.in-Fault.is))
+    (looking-hit (words a.code.now) a.n l.targets l.landing l.at l.d (omega arith) l.invariant (omega arith)
+    (sym (tested (goal.at.returns-in-Fault c).After-after_word-next) ∙ c.in-Fault.is))
 
 pub aim-requires : goal.aim-requires
 aim-requires c =
     let l = c.loop-at in
     let a = c.args in
-    let t = looking-target (words a.code.now) a.n l.targets l.landing l.at l.d (omega arith) l.invariant (sym (tested (goal.at.aim-requires c).After-after_word-next) ∙ c.in-Jump.is) in
+    let jump = sym (tested (goal.at.aim-requires c).After-after_word-next) ∙ c.in-Jump.is in
+    let t = looking-target (words a.code.now) a.n l.targets l.landing l.at l.d (omega arith) l.invariant jump in
     (omega (arith, t, c.operand-arg.ensures.0), l.invariant.size)
 
 pub loop-at-preserved : goal.loop-at-preserved
@@ -67,15 +70,17 @@ loop-at-preserved c =
     let l = c.loop-at in
     let a = c.args in
     let ws = words a.code.now in
+    let told = tested (goal.at.loop-at-preserved c).After-after_word-next in
+    let landing = met (goal.at.loop-at-preserved c).Joined-marked_inside in
     elim c.match-next.branch [
       | in-Jump w ↦
           looking-jump ws a.n l.targets l.landing l.at l.d (omega arith) l.invariant (omega arith) (omega arith)
-          (sym (tested (goal.at.loop-at-preserved c).After-after_word-next) ∙ w.in-Jump.is) w.d-is (met (goal.at.loop-at-preserved c).Joined-marked_inside)
+          (sym told ∙ w.in-Jump.is) w.d-is landing
           (w.targets-is ∙ w.aim.ensures ∙ rw c.operand-arg.ensures.0 refl)
       | in-Open w ↦
           rw w.targets-is
           (looking-open ws a.n l.targets l.landing l.at l.d (omega arith) l.invariant (omega arith) (omega arith)
-          (sym (tested (goal.at.loop-at-preserved c).After-after_word-next) ∙ w.in-Open.is ∙ ap Open (sym w.d-is)) (met (goal.at.loop-at-preserved c).Joined-marked_inside))
+          (sym told ∙ w.in-Open.is ∙ ap Open (sym w.d-is)) landing)
     ]
 
 pub returns-then-landing : goal.returns-then-landing

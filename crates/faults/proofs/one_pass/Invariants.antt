@@ -1,4 +1,5 @@
--- `faults::one_pass` meets its contract. At each turn the search from here finds what the whole search finds, and the targets of the jumps passed by are marked.
+-- `faults::one_pass` meets its contract. At each turn the search from here finds what the whole search finds, and the targets of the
+-- jumps passed by are marked.
 use Prim.Native.Nat.{◌-◌}
 use Rattle.words.specs.Word.{words}
 use Rattle.faults.proofs.FaultLaws.{Looking}

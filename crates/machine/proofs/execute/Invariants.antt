@@ -1,4 +1,5 @@
--- `machine::execute` meets its contract. At each turn the rest of the scan from here ends as the whole scan does; each word goes on to a later one.
+-- `machine::execute` meets its contract. At each turn the rest of the scan from here ends as the whole scan does; each word goes on to
+-- a later one.
 use mathlib.Core.Bool.{false}
 use mathlib.Core.List.{[], map}
 use Prim.Native.Nat.{◌-◌}
