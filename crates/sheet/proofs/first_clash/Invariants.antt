@@ -1,16 +1,19 @@
--- `sheet::first_clash` meets its contract.
-use borrow.Author.Tests.{eq-eqb, ne_eqb}
-use mathlib.Core.Path.{◌≡◌, sym}
-use Prim.Native.Nat.{◌-◌}
-use native.Mathlib.Omega.{arith}
+-- `sheet::first_clash` meets its contract. The invariants: no arrow passed has the key of an earlier one, and none before
+-- `earlier` has that of `later`.
+use Rattle.std.proofs.Common.{◌≡◌, ◌-◌}
 use Rattle.answer.specs.declared.Found.TheVariants.{Nothing}
 use Rattle.sheet.specs.inside.Arrows.{first_alike}
-use Rattle.sheet.proofs.ClashLaws.{Apart, apart-start, apart_more, clash-start, clash-more, clash-hit, clash-end}
+use Rattle.sheet.proofs.ClashLaws.{Apart}
 use Rattle.sheet.proofs.first_clash.Given as goal
 
-abbrev pub invariant-LOOP : goal.invariant-LOOP
-invariant-LOOP l = first_alike l.keys l.later ≡ Nothing
+abbrev pub invariant-loop-earlier : goal.invariant-loop-earlier
+invariant-loop-earlier l = Apart l.keys l.later l.earlier
 
-abbrev pub decreases-LOOP : goal.decreases-LOOP
-decreases-LOOP l = l.m - l.later
+abbrev pub decreases-loop-earlier : goal.decreases-loop-earlier
+decreases-loop-earlier l = l.later - l.earlier
 
+abbrev pub invariant-clash : goal.invariant-clash
+invariant-clash l = first_alike l.keys l.later ≡ Nothing
+
+abbrev pub decreases-clash : goal.decreases-clash
+decreases-clash l = l.m - l.later

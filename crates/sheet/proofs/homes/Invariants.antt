@@ -1,18 +1,10 @@
--- `sheet::homes` meets its contract.
-use borrow.Author.Rules.{rules}
-use mathlib.Core.Path.{◌≡◌}
-use mathlib.Core.Logic.{⊎_elim}
-use Prim.Native.Nat.{◌-◌, ◌≤◌, ◌<◌}
-use native.Mathlib.Omega.{arith}
-use lib.Dec.{eqb}
-use Rattle.reader.specs.declared.Arrow.{Arrow}
+-- `sheet::homes` meets its contract. The invariant: bit s of the word says whether an arrow passed goes from state s to 0.
+use Rattle.std.proofs.Common.{◌-◌, ◌≤◌}
 use Rattle.sheet.specs.inside.Arrows.{Homes}
-use Rattle.sheet.proofs.HomeLaws.{source_fits, homes-start, homes_set, homes-keep}
 use Rattle.sheet.proofs.homes.Given as goal
 
-abbrev pub invariant-LOOP : goal.invariant-LOOP
-invariant-LOOP l = (l.i ≤ l.m) × Homes l.arrows l.i l.word
+abbrev pub invariant-loop-i : goal.invariant-loop-i
+invariant-loop-i l = (l.i ≤ l.m) × Homes l.arrows l.i l.word
 
-abbrev pub decreases-LOOP : goal.decreases-LOOP
-decreases-LOOP l = l.m - l.i
-
+abbrev pub decreases-loop-i : goal.decreases-loop-i
+decreases-loop-i l = l.m - l.i
