@@ -24,7 +24,7 @@ pub struct Header {
 }
 
 // A transition; `cond` is the first bit of its condition, `form` and `words` are facts of it.
-#[derive(Drop)]
+#[derive(Clone, Copy)]
 pub struct Arrow {
     pub source: u8,
     pub destination: u8,
@@ -36,14 +36,14 @@ pub struct Arrow {
 }
 
 // Read to the cursor, or refused.
-#[derive(Drop)]
+#[derive(Clone, Copy)]
 pub enum How {
     Done(Cursor),
     Bad(Refusal),
 }
 
 // A sheet's header, decoded once; its rows and arrows stand in arrays that the caller lends.
-#[derive(Drop)]
+#[derive(Clone, Copy)]
 pub struct Decoded {
     pub how: How,
     pub states: u32,
