@@ -14,7 +14,7 @@ ghost use Rattle.machine.specs.inside.Midway.{midway, mach_in, join_top, enc, Ex
 use answer::Checked;
 
 // What a scan is given and hands back: flag s has weight 2^s, output a has weight 2^a.
-#[derive(Drop)]
+#[derive(Clone, Copy)]
 pub struct Record {
     pub flags: u32,
     pub outputs: u16,
@@ -22,7 +22,7 @@ pub struct Record {
 }
 
 // A scan's answer: where the code is refused, the record is the one that was given.
-#[derive(Drop)]
+#[derive(Clone, Copy)]
 pub struct Ran {
     pub verdict: Checked,
     pub record: Record,
