@@ -6,7 +6,7 @@ ghost use Rattle.bits.specs.Field.{reach, num_at, field_at};
 ghost use Rattle.bits.specs.Word.{get_bit, put_bit};
 
 // The next bit to be read.
-#[derive(Drop)]
+#[derive(Clone, Copy)]
 pub struct Cursor {
     pub at: usize,
 }

@@ -12,7 +12,7 @@ use bits::{Cursor, Got};
 
 // The nodes of a condition and of what was read before it; the condition's value at an input word, its form and its words of code.
 // The form: 1 input 0; 2 NOT input 0; 3 an AND whose first operand is input 0; else 0.
-#[derive(Drop)]
+#[derive(Clone, Copy)]
 pub struct Facts {
     pub nodes: u32,
     pub value: bool,

@@ -1,4 +1,6 @@
 // Reading a sheet: header, rows, transitions, and nothing more. Numbers 1 to 6, in reading order; the sheet is decoded once.
+#![tactic(auto)]
+
 ghost use Rattle.std.specs.Prelude.{◌≡◌, ◌+◌, ◌≤◌, ◌<◌, length};
 ghost use Rattle.bits.specs.Field.{reach};
 ghost use Rattle.bits.specs.Word.{bits_of, word_of};

@@ -1,0 +1,49 @@
+-- `reader::read_names` meets its contract. Assumes nothing.
+use borrow.Author.Tests.{lt-ltb, le-ltb}
+use mathlib.Core.Path.{sym}
+use native.Mathlib.Omega.{arith}
+use Rattle.bits.proofs.FieldLaws.{field-got}
+use Rattle.reader.specs.inside.Decoding.{names_at}
+use Rattle.reader.proofs.read_names.Goals as goal
+
+pub returns-in_default : goal.returns-in_default
+unfolding names_at
+returns-in_default c = rw (sym c.in_default.ensures)
+
+pub returns-then-n-source : goal.returns-then-n-source
+unfolding names_at
+returns-then-n-source c = rw (sym c.in-Field.ensures, le-ltb _ _ c.if-n-source.true)
+
+pub field-g2-requires : goal.field-g2-requires
+field-g2-requires c = omega (arith, (field-got _ _ _ _ _ (sym c.in-Field.ensures)).after)
+
+pub returns-in_default-g2 : goal.returns-in_default-g2
+unfolding names_at
+returns-in_default-g2 c =
+    rw (sym c.in-Field.ensures, lt-ltb _ _ c.if-n-source.false, sym c.in_default-g2.ensures)
+
+pub returns-then-n-destination : goal.returns-then-n-destination
+unfolding names_at
+returns-then-n-destination c =
+    rw (
+      sym c.in-Field.ensures,
+      lt-ltb _ _ c.if-n-source.false,
+      sym c.in-Field-g2.ensures,
+      le-ltb _ _ c.if-n-destination.true,
+    )
+
+pub overflow_cast-result : goal.overflow_cast-result
+overflow_cast-result c = omega (arith, (field-got _ _ _ _ _ (sym c.in-Field.ensures)).below)
+
+pub overflow_cast-result-2 : goal.overflow_cast-result-2
+overflow_cast-result-2 c = omega (arith, (field-got _ _ _ _ _ (sym c.in-Field-g2.ensures)).below)
+
+pub returns : goal.returns
+unfolding names_at
+returns c =
+    rw (
+      sym c.in-Field.ensures,
+      lt-ltb _ _ c.if-n-source.false,
+      sym c.in-Field-g2.ensures,
+      lt-ltb _ _ c.if-n-destination.false,
+    )
