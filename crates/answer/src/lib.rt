@@ -7,7 +7,7 @@ ghost use Rattle.answer.specs.Number.{number_of, place_of};
 
 // Why a call refuses; the place is held in the case: a bit, a transition, a state, a word, an input, a line, a row, an index, or the bytes needed.
 // No call gives the numbers from Text on yet.
-#[derive(Drop)]
+#[derive(Clone, Copy)]
 pub enum Refusal {
     Short(usize),
     OneState,
@@ -37,14 +37,14 @@ pub enum Refusal {
 }
 
 // What a check answers.
-#[derive(Drop)]
+#[derive(Clone, Copy)]
 pub enum Checked {
     Accepted,
     Refused(Refusal),
 }
 
 // What a search for the lowest place answers.
-#[derive(Drop)]
+#[derive(Clone, Copy)]
 pub enum Found {
     At(usize),
     Nothing,

@@ -12,7 +12,7 @@ pub struct Cursor {
 }
 
 // A field's value with the cursor after it, or no room for it.
-#[derive(Drop)]
+#[derive(Clone, Copy)]
 pub enum Got {
     Field(u32, Cursor),
     Short,

@@ -21,7 +21,7 @@ pub struct Facts {
 }
 
 // The cursor after a condition with its facts, or a refusal.
-#[derive(Drop)]
+#[derive(Clone, Copy)]
 pub enum CondRead {
     Next(Cursor, Facts),
     Bad(Refusal),

@@ -7,7 +7,6 @@ use native.Mathlib.Omega.{arith}
 use lib.ListN.{length, length-map}
 use Rattle.answer.specs.Number.{place_of, farthest}
 use Rattle.answer.specs.declared.Refusal.TheVariants as refuse
-use Rattle.answer.specs.declared.Checked.{Checked}
 use Rattle.answer.specs.declared.Checked.TheVariants.{Accepted, Refused}
 use Rattle.answer.specs.declared.Found.{Found}
 use Rattle.answer.specs.declared.Found.TheVariants.{At}

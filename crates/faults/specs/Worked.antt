@@ -1,6 +1,6 @@
 -- Code refused for each reason, by computation. Words are written in hex, as the paper writes them.
 use Rattle.std.specs.Prelude.{◌≡◌, refl, List, [], ◌∷◌, ◌++◌, ℕ, replicate}
-use Rattle.answer.specs.declared.Checked.TheVariants.{Accepted, Refused}
+use Rattle.answer.specs.declared.Checked.TheVariants.{Refused}
 use Rattle.answer.specs.declared.Refusal.TheVariants as refuse
 use Rattle.answer.specs.Number.{number_of, place_of}
 use Rattle.words.specs.Worked.{bytes}

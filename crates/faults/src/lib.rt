@@ -1,4 +1,6 @@
 // The check of code: 15 its end, 16 a word at fault, 17 a jump that lands inside a parenthesis.
+#![tactic(auto)]
+
 ghost use Rattle.std.specs.Prelude.{◌≡◌, true, false, ◌&&◌, ◌||◌, map, ℕ, pred, ◌+◌, ◌*◌, ◌≤◌, ◌<◌, length, replicate, eqb, ltb};
 ghost use Rattle.answer.specs.declared.Checked.TheVariants.{Accepted};
 ghost use Rattle.answer.specs.declared.Found.TheVariants.{Nothing};
@@ -28,6 +30,7 @@ enum Pass {
 }
 
 // 15: the end is judged by one byte, so that the rest of the last word is left to 16.
+#[tactic(auto, unfolding(crate::specs::Check::end_fault))]
 fn end_fault(code: &[u8]) -> bool
     ensures { result ≡ end_fault code.now }
 {

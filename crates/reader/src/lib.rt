@@ -36,14 +36,14 @@ pub struct Arrow {
 }
 
 // Read to the cursor, or refused.
-#[derive(Drop)]
+#[derive(Clone, Copy)]
 pub enum How {
     Done(Cursor),
     Bad(Refusal),
 }
 
 // A sheet's header, decoded once; its rows and arrows stand in arrays that the caller lends.
-#[derive(Drop)]
+#[derive(Clone, Copy)]
 pub struct Decoded {
     pub how: How,
     pub states: u32,

@@ -1,4 +1,6 @@
 // The rules of a sheet: numbers 7 to 13, and the check that answers every byte string.
+#![tactic(auto)]
+
 ghost use Rattle.std.specs.Prelude.{◌≡◌, List, ℕ, ◌≤◌, length};
 ghost use Rattle.answer.specs.Lowest.{first_below};
 ghost use Rattle.reader.specs.Sheet.{Sheet};
@@ -18,7 +20,7 @@ pub struct Opened {
 }
 
 // The rules that look at one transition by itself.
-#[derive(Drop)]
+#[derive(Clone, Copy)]
 enum Rule {
     Loop,
     HomeForm,
@@ -26,7 +28,7 @@ enum Rule {
 }
 
 // The rules by which two transitions of one source clash.
-#[derive(Drop)]
+#[derive(Clone, Copy)]
 enum Clash {
     Pair,
     Rank,

@@ -1,4 +1,6 @@
 // A condition that stands in the bits of a sheet, walked in the order in which it is computed: one item after the other, with no nested call.
+#![tactic(auto)]
+
 ghost use Rattle.std.specs.Prelude.{◌≡◌, List, false};
 ghost use Rattle.walk.specs.Items.{Item};
 ghost use Rattle.walk.specs.inside.Walking.{walk_at, Down, Downward, Walks, Walking, Tells, Falls};

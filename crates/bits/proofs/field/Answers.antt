@@ -1,6 +1,5 @@
 -- `bits::field` meets its contract. Assumes nothing.
-use borrow.Author.Rules.{rules}
-use mathlib.Core.Path.{◌≡◌, sym}
+use mathlib.Core.Path.{sym}
 use native.Mathlib.Omega.{arith}
 use Rattle.bits.proofs.FieldLaws.{field-here, field-short}
 use Rattle.bits.proofs.field.Goals as goal

@@ -5,7 +5,7 @@ use mathlib.Core.Logic.{◌⊎◌, inl, inr, ⊎_elim}
 use Prim.Native.Nat.{ℕ, ◌+◌, ◌*◌, ◌-◌, ◌/◌, ◌^◌, ◌≤◌, ◌<◌}
 use native.Mathlib.Omega.{arith}
 use native.Mathlib.Nat.{eq-or-lt_of_le}
-use lib.ListN.{length, get_or}
+use lib.ListN.{get_or}
 use Rattle.bits.specs.Field.{num_at}
 use Rattle.bits.proofs.FieldLaws.{num-byte, num-bytes, num-tail}
 use Rattle.bits.proofs.gathered.Goals as goal

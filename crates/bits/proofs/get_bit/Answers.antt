@@ -1,6 +1,5 @@
 -- `bits::get_bit` meets its contract. Assumes nothing.
 use mathlib.Core.Path.{sym}
-use borrow.Author.Rules.{rules}
 use Rattle.bits.proofs.WordLaws.{get-is}
 use Rattle.bits.proofs.get_bit.Goals as goal
 

@@ -1,6 +1,6 @@
 -- `condition::read_input` meets its contract. Assumes nothing.
 use borrow.Author.Tests.{lt-ltb, le-ltb, eq-eqb, ne_eqb}
-use mathlib.Core.Path.{sym, ◌∙◌}
+use mathlib.Core.Path.{sym}
 use native.Mathlib.Omega.{arith}
 use Rattle.bits.proofs.FieldLaws.{field-got}
 use Rattle.condition.specs.Cond.{eval, word_count}

@@ -1,6 +1,5 @@
 -- `words::operand` meets its contract. The last three of the four bytes are the word below 2^24. Assumes nothing.
 use native.Mathlib.Omega.{arith}
-use borrow.Author.Rules.{rules}
 use Rattle.words.proofs.WordLaws.{word_at_lem}
 use Rattle.words.proofs.operand.Goals as goal
 

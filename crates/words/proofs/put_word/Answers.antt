@@ -1,9 +1,7 @@
 -- `words::put_word` meets its contract. Assumes nothing.
-use borrow.Author.Rules.{rules}
 use mathlib.Core.Path.{refl, sym, ap}
 use native.Mathlib.Omega.{arith}
 use native.Mathlib.Numerals.{add-one, add-two, add-three}
-use lib.ListN.{length-set}
 use lib.Seq.{sets}
 use Rattle.words.proofs.WroteLaws.{word_bytes}
 use Rattle.words.proofs.put_word.Goals as goal

@@ -1,0 +1,7 @@
+-- `faults::aim` meets its contract. Assumes nothing.
+use Rattle.faults.specs.inside.Marks.{noted}
+use Rattle.faults.proofs.aim.Goals as goal
+
+pub returns : goal.returns
+unfolding noted
+returns c = rw c.set_bit.ensures

@@ -1,0 +1,7 @@
+-- `faults::is_marked` meets its contract. Assumes nothing.
+use Rattle.faults.specs.inside.Marks.{marked}
+use Rattle.faults.proofs.is_marked.Goals as goal
+
+pub returns : goal.returns
+unfolding marked
+returns c = c.get_bit.ensures
