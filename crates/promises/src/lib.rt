@@ -1,1 +1,2 @@
 // The promises: the three demands as theorems.
+#![tactic(auto)]

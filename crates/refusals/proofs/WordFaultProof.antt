@@ -172,21 +172,27 @@ module _ (n p d o : ℕ) (small : o < 16777216) where
   of-fault c (spare (inr (inr (inr (inl e)))) l) = rw e (is-5 ∙ or_left (ltb 0 o) (leb 8 d) (lt-ltb 0 o l))
   of-fault c (spare (inr (inr (inr (inr (inl e))))) l) = rw e (is-6 ∙ or_left (ltb 0 o) (eqb d 0) (lt-ltb 0 o l))
   of-fault c (spare (inr (inr (inr (inr (inr (inl e)))))) l) = rw e (is-14 ∙ lt-ltb 0 o l)
+  of-fault c (spare (inr (inr (inr (inr (inr (inr x)))))) l) = elim x [ ]
   of-fault c (flag (inl e) l) = rw e (is-1 ∙ or_left (ltb 31 o) (ltb 0 d) (lt-ltb 31 o l))
   of-fault c (flag (inr (inl e)) l) = rw e (is-8 ∙ lt-ltb 31 o l)
   of-fault c (flag (inr (inr (inl e))) l) = rw e (is-9 ∙ lt-ltb 31 o l)
+  of-fault c (flag (inr (inr (inr x))) l) = elim x [ ]
   of-fault c (variable (inl e) l) = rw e (is-2 ∙ lt-ltb 15 o l)
   of-fault c (variable (inr (inl e)) l) = rw e (is-10 ∙ lt-ltb 15 o l)
   of-fault c (variable (inr (inr (inl e))) l) = rw e (is-11 ∙ lt-ltb 15 o l)
+  of-fault c (variable (inr (inr (inr x))) l) = elim x [ ]
   of-fault c (jump (inl e) l) = rw e (is-12 ∙ or_left (strays n p o) (ltb 0 d) (of-strays n p o l))
   of-fault c (jump (inr (inl e)) l) = rw e (is-13 ∙ or_left (strays n p o) (ltb 0 d) (of-strays n p o l))
+  of-fault c (jump (inr (inr x)) l) = elim x [ ]
   of-fault c (closing e l) = rw e (is-6 ∙ or_right (ltb 0 o) (eqb d 0) (eq-eqb d 0 l))
   of-fault c (ninth (inl e) l) = rw e (is-4 ∙ or_right (ltb 0 o) (leb 8 d) (le-leb 8 d l))
   of-fault c (ninth (inr (inl e)) l) = rw e (is-5 ∙ or_right (ltb 0 o) (leb 8 d) (le-leb 8 d l))
+  of-fault c (ninth (inr (inr x)) l) = elim x [ ]
   of-fault c (inside (inl e) l) = rw e (is-1 ∙ or_right (ltb 31 o) (ltb 0 d) (lt-ltb 0 d l))
   of-fault c (inside (inr (inl e)) l) = rw e (is-13 ∙ or_right (strays n p o) (ltb 0 d) (lt-ltb 0 d l))
   of-fault c (inside (inr (inr (inl e))) l) = rw e (is-12 ∙ or_right (strays n p o) (ltb 0 d) (lt-ltb 0 d l))
   of-fault c (inside (inr (inr (inr (inl e)))) l) = rw e (is-0 ∙ or_right (ltb 0 o) (ltb 0 d) (lt-ltb 0 d l))
+  of-fault c (inside (inr (inr (inr (inr x)))) l) = elim x [ ]
 
 -- a number that is a word at fault
 pub word-fault : (n p d w : ℕ) → ((unknown w || faulty n p d (decode w)) ≡ true) ↔ WordFault n p d (w / 16777216) (w % 16777216)
@@ -210,6 +216,7 @@ jumps-of c held = go (eqb c 12) refl (eqb c 13) refl
 of-jumps : (c : ℕ) (held : Bool) → OneOf c (12 ∷ 13 ∷ []) → held ≡ true → (eqb c 12 || eqb c 13) && held ≡ true
 of-jumps c held (inl f) e = rw (f, e) refl
 of-jumps c held (inr (inl f)) e = rw (f, e) refl
+of-jumps c held (inr (inr x)) e = elim x [ ]
 
 pub landing-fault : (code : List Word) (w : ℕ)
     → (lands_open code (decode w) ≡ true) ↔ (OneOf (w / 16777216) (12 ∷ 13 ∷ []) × (0 < depth_at 0 code (w % 16777216)))
