@@ -1,4 +1,6 @@
 // The C boundary, which crate recorder_c exports: each call answers with plain numbers, and settles what stands behind each pointer.
+#![tactic(auto)]
+
 ghost use Rattle.std.specs.Prelude.{◌≤◌};
 ghost use Rattle.answer.specs.Number.{place_of, farthest};
 ghost use Rattle.scan.specs.Scan.{state_with};
@@ -32,12 +34,7 @@ pub fn chz_check_code(code: &[u8], place: &mut u32) -> u32
 }
 
 // Writes the code of a sheet.
-pub fn chz_translate(
-    sheet: &[u8],
-    code: &mut [u8],
-    length: &mut u32,
-    place: &mut u32,
-) -> u32
+pub fn chz_translate(sheet: &[u8], code: &mut [u8], length: &mut u32, place: &mut u32) -> u32
     ensures { ChzTranslate sheet.now code.old result place.new length.new code.new }
 {
     let translated = translate::translate(sheet, code);
