@@ -16,7 +16,7 @@ pub returns-then-spare-eq0 : goal.returns-then-spare-eq0
 unfolding num_at
 returns-then-spare-eq0 c =
     let a = c.args in
-    let full : (a.c.at + 7) / 8 * 8 - a.c.at ≡ 0 = c.if-spare-eq0.true in
+    let full : (a.c.at + 7) / 8 * 8 - a.c.at ≡ 0 = omega (arith, c.if-spare-eq0.true) in
     sym (ends-spare a.s.now a.c.at c.if-s-stop.false ∙ rw full refl)
 
 pub returns-in_default : goal.returns-in_default

@@ -29,7 +29,7 @@ returns-then-n-destination c =
       sym c.in-Field.ensures,
       lt-ltb _ _ c.if-n-source.false,
       sym c.in-Field-g2.ensures,
-      le-ltb _ _ c.if-n-destination.true,
+      le-ltb c.in-Field-g2.destination c.args.n (omega arith),
     )
 
 pub overflow_cast-result : goal.overflow_cast-result
@@ -45,5 +45,5 @@ returns c =
       sym c.in-Field.ensures,
       lt-ltb _ _ c.if-n-source.false,
       sym c.in-Field-g2.ensures,
-      lt-ltb _ _ c.if-n-destination.false,
+      lt-ltb c.in-Field-g2.destination c.args.n (omega arith),
     )

@@ -30,8 +30,7 @@ moved-requires c =
     let g = c.requires.good c.in-Accepted.is in
     let picked = c.choose-p.ensures g.sheet.transitions (sym g.copy.transitions)
     (arrows-hold a.sheet.now a.o a.rows.now a.arrows.now g) in
-    inside a.sheet.now a.o a.rows.now a.arrows.now g a.«record».state a.inputs c.bring_forward-clock.result
-    c.choose-p.result picked
+    inside a.sheet.now a.o a.rows.now a.arrows.now g a.«record».state a.inputs _ c.choose-p.result picked
 
 pub returns-in-Refused : goal.returns-in-Refused
 returns-in-Refused c =
