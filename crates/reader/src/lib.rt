@@ -24,7 +24,7 @@ pub struct Header {
 }
 
 // A transition; `cond` is the first bit of its condition, `form` and `words` are facts of it.
-#[derive(Drop)]
+#[derive(Clone, Copy)]
 pub struct Arrow {
     pub source: u8,
     pub destination: u8,

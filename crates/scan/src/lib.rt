@@ -1,4 +1,6 @@
 // The reference scan: one scan that works from the sheet, and its cold start.
+#![tactic(auto)]
+
 ghost use Rattle.std.specs.Prelude.{◌≡◌, List, ℕ, ◌≤◌, ◌<◌, length, get_or};
 ghost use Rattle.condition.specs.inside.Reach.{cond_reach};
 ghost use Rattle.reader.specs.Sheet.{Transition, no_transition};
@@ -15,7 +17,7 @@ use reader::Arrow;
 use sheet::Opened;
 
 // The reference's record: the active state, its outputs (output a has weight 2^a) and the clock.
-#[derive(Drop)]
+#[derive(Clone, Copy)]
 pub struct State {
     pub state: u8,
     pub outputs: u16,
