@@ -32,7 +32,8 @@ fn without_number(printed: &[u8]) -> &[u8] {
     printed
 }
 
-fn put_reason(out: &mut [u8], at: usize, e: &io::Error) -> usize {
+// The reason of an error, without a line end.
+pub fn put_reason(out: &mut [u8], at: usize, e: &io::Error) -> usize {
     let mut printed = Printed {
         text: [0; 256],
         used: 0,

@@ -8,6 +8,6 @@ mod named;
 mod save;
 
 pub use calls::{Read, Stream, read_all, read_some, write_all, write_first};
-pub use fault::{file_fault, say};
+pub use fault::{file_fault, put_reason, say};
 pub use named::{name_at, open_read, word_at};
 pub use save::{Wrote, is_output, write_file};
