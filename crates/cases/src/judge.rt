@@ -77,12 +77,10 @@ fn run_agrees(fields: &[u8], verdict: Checked, r: Record) -> bool {
 
 // Whether all bytes are as they were before the call.
 fn all_filled(s: &[u8]) -> bool {
-    let mut i: usize = 0;
-    while i < s.len() {
-        if s[i] != FILL {
+    for b in s {
+        if *b != FILL {
             return false;
         }
-        i += 1;
     }
     true
 }
@@ -93,7 +91,7 @@ fn holds(buffer: &[u8], written: &[u8]) -> bool {
     if buffer.len() < n {
         return false;
     }
-    if !check::same(&buffer[0..n], written) {
+    if !text::same(&buffer[0..n], written) {
         return false;
     }
     all_filled(&buffer[n..])

@@ -45,24 +45,24 @@ fn judges_m(second: u8, third: u8, eighth: u8, number: u32, place: usize) -> boo
 }
 
 // P1, P2, P5 and P6: other lengths.
-fn lengths(t: Tally) -> Tally {
+fn lengths(rt: &HostRuntime, t: Tally) -> Tally {
     let ten = [8u8, 0, 8, 32, 0, 0, 0, 0, 128, 0];
     let all: &[u8] = &ten;
     let zero = [0u8];
-    let a = say::worked(t, b"P1", judges(&all[0..0], 1, 0));
-    let b = say::worked(a, b"P2", judges(&zero, 2, 0));
-    let c = say::worked(b, b"P5", judges(all, 6, 71));
-    say::worked(c, b"P6", judges(&all[0..8], 1, 63))
+    let a = say::worked(rt, t, b"P1", judges(&all[0..0], 1, 0));
+    let b = say::worked(rt, a, b"P2", judges(&zero, 2, 0));
+    let c = say::worked(rt, b, b"P5", judges(all, 6, 71));
+    say::worked(rt, c, b"P6", judges(&all[0..8], 1, 63))
 }
 
 // P3, P4 and P7 to P10: other bytes.
-fn changes(t: Tally) -> Tally {
-    let a = say::worked(t, b"P3", judges_m(8, 32, 128, 0, 0));
-    let b = say::worked(a, b"P4", judges_m(8, 32, 129, 6, 71));
-    let c = say::worked(b, b"P7", judges_m(8, 64, 128, 3, 22));
-    let d = say::worked(c, b"P8", judges_m(8, 0, 128, 7, 0));
-    let e = say::worked(d, b"P9", judges_m(0, 32, 128, 13, 0));
-    say::worked(e, b"P10", judges_m(8, 32, 130, 4, 67))
+fn changes(rt: &HostRuntime, t: Tally) -> Tally {
+    let a = say::worked(rt, t, b"P3", judges_m(8, 32, 128, 0, 0));
+    let b = say::worked(rt, a, b"P4", judges_m(8, 32, 129, 6, 71));
+    let c = say::worked(rt, b, b"P7", judges_m(8, 64, 128, 3, 22));
+    let d = say::worked(rt, c, b"P8", judges_m(8, 0, 128, 7, 0));
+    let e = say::worked(rt, d, b"P9", judges_m(0, 32, 128, 13, 0));
+    say::worked(rt, e, b"P10", judges_m(8, 32, 130, 4, 67))
 }
 
 // P11, with room for the code.
@@ -71,7 +71,7 @@ fn translates() -> bool {
     let mut buffer = [0u8; 64];
     let t = translate::translate(&sheet, &mut buffer);
     let verdict = t.verdict;
-    is(verdict, 0, 0) & (t.length == 64) & check::same(&buffer, &CODE_OF_M)
+    is(verdict, 0, 0) & (t.length == 64) & text::same(&buffer, &CODE_OF_M)
 }
 
 // P11, with a byte too little: nothing is written.
@@ -81,10 +81,10 @@ fn lacks_room() -> bool {
     let mut buffer = [0u8; 63];
     let t = translate::translate(&sheet, &mut buffer);
     let verdict = t.verdict;
-    is(verdict, 14, 64) & (t.length == 0) & check::same(&buffer, &zeros)
+    is(verdict, 14, 64) & (t.length == 0) & text::same(&buffer, &zeros)
 }
 
-fn reaches(s: Scanned, state: u8, clock: u32) -> bool {
+fn reaches(s: &Scanned, state: u8, clock: u32) -> bool {
     let verdict = s.verdict;
     let r = s.record;
     is(verdict, 0, 0) & (r.state == state) & (r.clock == clock)
@@ -102,26 +102,25 @@ fn scan_reaches(
 ) -> bool {
     let outputs: u16 = if from == 0 { 1 } else { 2 };
     let given = scan::state_with(from, outputs, clock);
-    reaches(scan::scan(sheet, given, inputs, elapsed), state, after)
+    let scanned = scan::scan(sheet, given, inputs, elapsed);
+    reaches(&scanned, state, after)
 }
 
 // P12 by the reference.
 fn scans(sheet: &[u8]) -> bool {
     let cold = scan::cold_scan(sheet);
     let mut record = cold.record;
-    let mut i: usize = 0;
-    while i < 8 {
+    for i in 0..8 {
         let s = scan::scan(sheet, record, INPUTS[i], TIMES[i]);
-        if !reaches(s, STATES[i], CLOCKS[i]) {
+        if !reaches(&s, STATES[i], CLOCKS[i]) {
             return false;
         }
         record = s.record;
-        i += 1;
     }
     true
 }
 
-fn comes_to(r: Ran, flags: u32, clock: u32) -> bool {
+fn comes_to(r: &Ran, flags: u32, clock: u32) -> bool {
     let verdict = r.verdict;
     let record = r.record;
     is(verdict, 0, 0) & (record.flags == flags) & (record.clock == clock)
@@ -139,36 +138,47 @@ fn run_reaches(
 ) -> bool {
     let outputs: u16 = if from == 1 { 1 } else { 2 };
     let given = machine::record_with(from, outputs, clock);
-    comes_to(machine::run(code, given, inputs, elapsed), flags, after)
+    let ran = machine::run(code, given, inputs, elapsed);
+    comes_to(&ran, flags, after)
 }
 
 // P12 by the code.
 fn runs(sheet: &[u8], code: &[u8]) -> bool {
     let cold = translate::cold_run(sheet);
     let mut record = cold.record;
-    let mut i: usize = 0;
-    while i < 8 {
+    for i in 0..8 {
         let r = machine::run(code, record, INPUTS[i], TIMES[i]);
-        if !comes_to(r, FLAGS[i], CLOCKS[i]) {
+        if !comes_to(&r, FLAGS[i], CLOCKS[i]) {
             return false;
         }
         record = r.record;
-        i += 1;
     }
     true
 }
 
 // P12, P13, P14 and the two below them, by the reference.
-fn by_reference(t: Tally, sheet: &[u8]) -> Tally {
-    let a = say::worked(t, b"P12, reference", scans(sheet));
-    let b = say::worked(a, b"P13, reference", scan_reaches(sheet, 3, 99, 7, 1, 5, 0));
-    let c = say::worked(b, b"P14, reference", scan_reaches(sheet, 3, 99, 7, 0, 8, 0));
+fn by_reference(rt: &HostRuntime, t: Tally, sheet: &[u8]) -> Tally {
+    let a = say::worked(rt, t, b"P12, reference", scans(sheet));
+    let b = say::worked(
+        rt,
+        a,
+        b"P13, reference",
+        scan_reaches(sheet, 3, 99, 7, 1, 5, 0),
+    );
+    let c = say::worked(
+        rt,
+        b,
+        b"P14, reference",
+        scan_reaches(sheet, 3, 99, 7, 0, 8, 0),
+    );
     let d = say::worked(
+        rt,
         c,
         b"from cold 111/10, reference",
         scan_reaches(sheet, 0, 0, 7, 10, 1, 0),
     );
     say::worked(
+        rt,
         d,
         b"in state 0 011/50, reference",
         scan_reaches(sheet, 0, 7, 6, 50, 0, 57),
@@ -176,16 +186,18 @@ fn by_reference(t: Tally, sheet: &[u8]) -> Tally {
 }
 
 // The same by the code.
-fn by_code(t: Tally, sheet: &[u8], code: &[u8]) -> Tally {
-    let a = say::worked(t, b"P12, code", runs(sheet, code));
-    let b = say::worked(a, b"P13, code", run_reaches(code, 8, 99, 7, 1, 32, 0));
-    let c = say::worked(b, b"P14, code", run_reaches(code, 8, 99, 7, 0, 256, 0));
+fn by_code(rt: &HostRuntime, t: Tally, sheet: &[u8], code: &[u8]) -> Tally {
+    let a = say::worked(rt, t, b"P12, code", runs(sheet, code));
+    let b = say::worked(rt, a, b"P13, code", run_reaches(code, 8, 99, 7, 1, 32, 0));
+    let c = say::worked(rt, b, b"P14, code", run_reaches(code, 8, 99, 7, 0, 256, 0));
     let d = say::worked(
+        rt,
         c,
         b"from cold 111/10, code",
         run_reaches(code, 1, 0, 7, 10, 2, 0),
     );
     say::worked(
+        rt,
         d,
         b"in state 0 011/50, code",
         run_reaches(code, 1, 7, 6, 50, 1, 57),
@@ -207,22 +219,27 @@ fn has_its_sizes(sheet: &[u8], length: usize) -> bool {
     }
 }
 
-fn two_contact(t: Tally, sheet: &[u8]) -> Tally {
+fn two_contact(rt: &HostRuntime, t: Tally, sheet: &[u8]) -> Tally {
     let mut code = [0u8; 1084];
     let made = translate::translate(sheet, &mut code);
-    let a = say::worked(t, b"two-contact sheet", has_its_sizes(sheet, made.length));
-    let b = by_reference(a, sheet);
-    by_code(b, sheet, &code)
+    let a = say::worked(
+        rt,
+        t,
+        b"two-contact sheet",
+        has_its_sizes(sheet, made.length),
+    );
+    let b = by_reference(rt, a, sheet);
+    by_code(rt, b, sheet, &code)
 }
 
 // All of them; the two-contact sheet is the first n bytes of those given.
-pub fn all(given: &[u8], n: usize) -> Tally {
-    let a = lengths(tally::nothing());
-    let b = changes(a);
-    let c = say::worked(b, b"P11", translates());
-    let d = say::worked(c, b"P11 with 63 bytes of room", lacks_room());
+pub fn all(rt: &HostRuntime, given: &[u8], n: usize) -> Tally {
+    let a = lengths(rt, tally::nothing());
+    let b = changes(rt, a);
+    let c = say::worked(rt, b, b"P11", translates());
+    let d = say::worked(rt, c, b"P11 with 63 bytes of room", lacks_room());
     if given.len() < n {
         return tally::counted(d, false);
     }
-    two_contact(d, &given[0..n])
+    two_contact(rt, d, &given[0..n])
 }

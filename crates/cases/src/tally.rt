@@ -1,6 +1,6 @@
 // Counts of answers.
 
-#[derive(Drop)]
+#[derive(Clone, Copy)]
 pub struct Tally {
     pub agree: u64,
     pub differ: u64,

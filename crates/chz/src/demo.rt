@@ -1,5 +1,8 @@
 // The demonstration: the two-contact sheet and the scans P12 of the scope of work.
 
+use files::Stream;
+use std::io;
+
 // The scans, as a trace.
 pub const P12: [u8; 54] = *b"100 10\n110 10\n110 99\n110 1\n111 10\n100 10\n111 10\n011 5\n";
 
@@ -16,15 +19,15 @@ pub fn two_contact() -> [u8; 165] {
     ]
 }
 
-pub fn introduce() -> bool {
-    if !files::write_all(
-        1,
-        b"The two-contact sheet, for SF_Equivalent. Inputs: Activate, A, B. Outputs: activity, Ready, EquivalentOut, Error.\n",
-    ) {
-        return false;
-    }
+pub fn introduce(rt: &HostRuntime) -> io::Result<()> {
     files::write_all(
-        1,
+        rt,
+        Stream::Output,
+        b"The two-contact sheet, for SF_Equivalent. Inputs: Activate, A, B. Outputs: activity, Ready, EquivalentOut, Error.\n",
+    )?;
+    files::write_all(
+        rt,
+        Stream::Output,
         b"States: 0 Idle, 1 Init, 2 Wait for A, 3 Wait for B, 4 Error 1, 5 Error 2, 6 From Active Wait, 7 Error 3, 8 Enabled.\n",
     )
 }

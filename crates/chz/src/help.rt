@@ -1,70 +1,89 @@
 // What the program says of itself.
+use files::Stream;
+use std::io;
 
-fn put_commands(fd: i32) -> bool {
+fn put_commands(rt: &HostRuntime, stream: Stream) -> io::Result<()> {
     files::write_all(
-        fd,
+        rt,
+        stream,
         b"chz checks, translates and runs sheets: Boolean state machines for safety PLCs\n\n",
-    ) & files::write_all(
-        fd,
+    )?;
+    files::write_all(
+        rt,
+        stream,
         b"  chz check SHEET            is the sheet accepted? if not: the number, the place and what it means\n",
-    ) & files::write_all(fd, b"  chz check --code CODE      the same of code\n")
-        & files::write_all(
-            fd,
-            b"  chz translate SHEET CODE   writes the sheet's code; the file - is standard output\n",
-        )
-        & files::write_all(
-            fd,
-            b"  chz run SHEET TRACE        runs the code and the reference side by side, a line a scan\n",
-        )
-        & files::write_all(
-            fd,
-            b"  chz run --code CODE TRACE  runs code alone; with --sheet SHEET beside that sheet's reference\n",
-        )
-        & files::write_all(
-            fd,
-            b"      --state S --clock MS   start from there and not from cold\n",
-        )
-        & files::write_all(
-            fd,
-            b"  chz demo                   the two-contact sheet and the scans P12, with no file needed\n",
-        )
-        & files::write_all(
-            fd,
-            b"  chz help, chz version      this page; the version\n\n",
-        )
+    )?;
+    files::write_all(
+        rt,
+        stream,
+        b"  chz check --code CODE      the same of code\n",
+    )?;
+    files::write_all(
+        rt,
+        stream,
+        b"  chz translate SHEET CODE   writes the sheet's code; the file - is standard output\n",
+    )?;
+    files::write_all(
+        rt,
+        stream,
+        b"  chz run SHEET TRACE        runs the code and the reference side by side, a line a scan\n",
+    )?;
+    files::write_all(
+        rt,
+        stream,
+        b"  chz run --code CODE TRACE  runs code alone; with --sheet SHEET beside that sheet's reference\n",
+    )?;
+    files::write_all(
+        rt,
+        stream,
+        b"      --state S --clock MS   start from there and not from cold\n",
+    )?;
+    files::write_all(
+        rt,
+        stream,
+        b"  chz demo                   the two-contact sheet and the scans P12, with no file needed\n",
+    )?;
+    files::write_all(
+        rt,
+        stream,
+        b"  chz help, chz version      this page; the version\n\n",
+    )
 }
 
-fn put_notes(fd: i32) -> bool {
+fn put_notes(rt: &HostRuntime, stream: Stream) -> io::Result<()> {
     files::write_all(
-        fd,
+        rt,
+        stream,
         b"A trace is text, a scan a line: the input bits, input 0 first, a blank and the elapsed ms, as '110 99'.\n",
-    ) & files::write_all(
-        fd,
+    )?;
+    files::write_all(
+        rt,
+        stream,
         b"# starts a comment, blank lines are passed over, and the trace - is standard input.\n",
-    ) & files::write_all(
-        fd,
+    )?;
+    files::write_all(
+        rt,
+        stream,
         b"Exit status: 0 accepted, 1 refused, 2 a fault of usage, of a file or of a line of the trace.\n",
     )
 }
 
-fn help(fd: i32) -> bool {
-    put_commands(fd) & put_notes(fd)
+fn help(rt: &HostRuntime, stream: Stream) -> io::Result<()> {
+    put_commands(rt, stream)?;
+    put_notes(rt, stream)
 }
 
 // The help that was asked for.
-pub fn help_command() -> u8 {
-    if help(libc::STDOUT_FILENO) {
-        return status::ACCEPTED;
-    }
-    status::file_fault(b"standard output")
+pub fn help_command(rt: &HostRuntime) -> u8 {
+    status::written(rt, help(rt, Stream::Output), status::ACCEPTED)
 }
 
-pub fn version_command() -> u8 {
+pub fn version_command(rt: &HostRuntime) -> u8 {
     let text = b"chz 0.1.0\n";
-    status::tell(text, 10, status::ACCEPTED)
+    status::tell(rt, text, 10, status::ACCEPTED)
 }
 
-pub fn no_command() -> u8 {
-    help(libc::STDERR_FILENO);
+pub fn no_command(rt: &HostRuntime) -> u8 {
+    let _ = help(rt, Stream::Error);
     status::FAILED
 }

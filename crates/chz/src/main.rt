@@ -1,11 +1,15 @@
 // The command line: a thin program over the proved library.
+#![tactic(auto)]
+
 mod demo;
 mod help;
 mod show;
 
 use options::Options;
+use std::env::{Env, FillError};
+use std::process::ExitCode;
 
-#[derive(Drop)]
+#[derive(Clone, Copy)]
 enum Command {
     Check,
     Translate,
@@ -18,33 +22,33 @@ enum Command {
 }
 
 fn is_help(word: &[u8]) -> bool {
-    if check::same(word, b"help") {
+    if text::same(word, b"help") {
         return true;
     }
-    if check::same(word, b"--help") {
+    if text::same(word, b"--help") {
         return true;
     }
-    check::same(word, b"-h")
+    text::same(word, b"-h")
 }
 
 fn is_version(word: &[u8]) -> bool {
-    if check::same(word, b"version") {
+    if text::same(word, b"version") {
         return true;
     }
-    check::same(word, b"--version")
+    text::same(word, b"--version")
 }
 
 fn command_of(word: &[u8]) -> Command {
-    if check::same(word, b"check") {
+    if text::same(word, b"check") {
         return Command::Check;
     }
-    if check::same(word, b"translate") {
+    if text::same(word, b"translate") {
         return Command::Translate;
     }
-    if check::same(word, b"run") {
+    if text::same(word, b"run") {
         return Command::Run;
     }
-    if check::same(word, b"demo") {
+    if text::same(word, b"demo") {
         return Command::Demo;
     }
     if is_help(word) {
@@ -57,125 +61,129 @@ fn command_of(word: &[u8]) -> Command {
 }
 
 // The command at a word, which is missing where there is none.
-fn command_at(word: usize) -> Command {
+fn command_at(rt: &HostRuntime, word: usize) -> Command {
     let mut text = [0u8; 16];
-    let n = os::arg(word, &mut text);
-    let error = os::errno();
-    if error == libc::EINVAL {
-        return Command::Missing;
+    match rt.arg(word, &mut text) {
+        Ok(n) => command_of(&text[..n]),
+        Err(FillError::TooLong) => Command::Unknown,
+        Err(FillError::NotPresent) => Command::Missing,
     }
-    command_of(&text[..n])
 }
 
-fn check_with(o: Options) -> u8 {
+fn check_with(rt: &HostRuntime, o: Options) -> u8 {
     if (o.sheet != 0) | (o.state != 0) | (o.clock != 0) | (o.second != 0) {
-        return check_usage();
+        return check_usage(rt);
     }
     if (o.code != 0) & (o.first == 0) {
-        return report::check_code_command(o.code);
+        return report::check_code_command(rt, o.code);
     }
     if (o.code == 0) & (o.first != 0) {
-        return report::check_command(o.first);
+        return report::check_command(rt, o.first);
     }
-    check_usage()
+    check_usage(rt)
 }
 
-fn check_usage() -> u8 {
-    status::usage_fault(b"check takes one file: chz check SHEET, or chz check --code CODE")
+fn check_usage(rt: &HostRuntime) -> u8 {
+    status::usage_fault(
+        rt,
+        b"check takes one file: chz check SHEET, or chz check --code CODE",
+    )
 }
 
 fn is_plain(o: Options) -> bool {
     (o.code == 0) & (o.sheet == 0) & (o.state == 0) & (o.clock == 0)
 }
 
-fn translate_with(o: Options) -> u8 {
+fn translate_with(rt: &HostRuntime, o: Options) -> u8 {
     if is_plain(o) & (o.second != 0) & (o.third == 0) {
-        return rewrite::translate_command(o.first, o.second);
+        return rewrite::translate_command(rt, o.first, o.second);
     }
-    status::usage_fault(b"translate takes two files: chz translate SHEET CODE")
+    status::usage_fault(rt, b"translate takes two files: chz translate SHEET CODE")
 }
 
 // The trace alone, or the sheet and the trace.
-fn run_with(o: Options) -> u8 {
+fn run_with(rt: &HostRuntime, o: Options) -> u8 {
     let named = (o.code != 0) | (o.sheet != 0);
     if named & (o.first != 0) & (o.second == 0) {
-        return running::run_command(o.sheet, o, o.first);
+        return running::run_command(rt, o.sheet, o, o.first);
     }
     if !named & (o.second != 0) & (o.third == 0) {
-        return running::run_command(o.first, o, o.second);
+        return running::run_command(rt, o.first, o, o.second);
     }
     status::usage_fault(
+        rt,
         b"run takes a sheet and a trace: chz run SHEET TRACE, or chz run --code CODE TRACE",
     )
 }
 
-fn demo_with(o: Options) -> u8 {
+fn demo_with(rt: &HostRuntime, o: Options) -> u8 {
     if is_plain(o) & (o.first == 0) {
-        return show::demo_command();
+        return show::demo_command(rt);
     }
-    status::usage_fault(b"demo takes no file")
+    status::usage_fault(rt, b"demo takes no file")
 }
 
-fn help_with(o: Options) -> u8 {
+fn help_with(rt: &HostRuntime, o: Options) -> u8 {
     if is_plain(o) & (o.first == 0) {
-        return help::help_command();
+        return help::help_command(rt);
     }
-    status::usage_fault(b"help takes no file")
+    status::usage_fault(rt, b"help takes no file")
 }
 
-fn version_with(o: Options) -> u8 {
+fn version_with(rt: &HostRuntime, o: Options) -> u8 {
     if is_plain(o) & (o.first == 0) {
-        return help::version_command();
+        return help::version_command(rt);
     }
-    status::usage_fault(b"version takes no file")
+    status::usage_fault(rt, b"version takes no file")
 }
 
 // Runs a command whose words are these.
-fn run_command(command: Command, word: usize, o: Options) -> u8 {
+fn run_command(rt: &HostRuntime, command: Command, word: usize, o: Options) -> u8 {
     if o.unknown != 0 {
-        return status::word_fault(b"there is no option", o.unknown);
+        return status::word_fault(rt, b"there is no option", o.unknown);
     }
     if o.lacking != 0 {
-        return status::word_fault(b"a value is missing after", o.lacking);
+        return status::word_fault(rt, b"a value is missing after", o.lacking);
     }
     match command {
-        Command::Check => check_with(o),
-        Command::Translate => translate_with(o),
-        Command::Run => run_with(o),
-        Command::Demo => demo_with(o),
-        Command::Help => help_with(o),
-        Command::Version => version_with(o),
-        Command::Missing => help::no_command(),
-        Command::Unknown => status::word_fault(b"there is no command", word),
+        Command::Check => check_with(rt, o),
+        Command::Translate => translate_with(rt, o),
+        Command::Run => run_with(rt, o),
+        Command::Demo => demo_with(rt, o),
+        Command::Help => help_with(rt, o),
+        Command::Version => version_with(rt, o),
+        Command::Missing => help::no_command(rt),
+        Command::Unknown => status::word_fault(rt, b"there is no command", word),
     }
 }
 
 // Runs the command at a word, whose options and files are the words from the next one on.
-fn run_at(word: usize, next: usize) -> u8 {
-    let command = command_at(word);
+fn run_at(rt: &HostRuntime, word: usize, next: usize) -> u8 {
+    let command = command_at(rt, word);
     match command {
-        Command::Missing => help::no_command(),
-        Command::Unknown => status::word_fault(b"there is no command", word),
-        Command::Check => run_command(command, word, options::options_from(next)),
-        Command::Translate => run_command(command, word, options::options_from(next)),
-        Command::Run => run_command(command, word, options::options_from(next)),
-        Command::Demo => run_command(command, word, options::options_from(next)),
-        Command::Help => run_command(command, word, options::options_from(next)),
-        Command::Version => run_command(command, word, options::options_from(next)),
+        Command::Missing => help::no_command(rt),
+        Command::Unknown => status::word_fault(rt, b"there is no command", word),
+        Command::Check => run_command(rt, command, word, options::options_from(rt, next)),
+        Command::Translate => run_command(rt, command, word, options::options_from(rt, next)),
+        Command::Run => run_command(rt, command, word, options::options_from(rt, next)),
+        Command::Demo => run_command(rt, command, word, options::options_from(rt, next)),
+        Command::Help => run_command(rt, command, word, options::options_from(rt, next)),
+        Command::Version => run_command(rt, command, word, options::options_from(rt, next)),
     }
 }
 
-// Whether the launcher wants the status told on descriptor 3: its first word is then --status.
-fn is_launched() -> bool {
+// Whether the launcher wants the status: its first word is then --status.
+fn is_launched(rt: &HostRuntime) -> bool {
     let mut text = [0u8; 16];
-    let n = os::arg(1, &mut text);
-    check::same(&text[..n], b"--status")
+    let n = files::word_at(rt, 1, &mut text);
+    text::same(&text[..n], b"--status")
 }
 
-fn main() {
-    if is_launched() {
-        status::report(run_at(2, 3));
-        return;
+// Without --status the program ends with 0, whatever it says.
+fn main(rt: HostRuntime) -> ExitCode {
+    if is_launched(&rt) {
+        return ExitCode::from(run_at(&rt, 2, 3));
     }
-    run_at(1, 2);
+    run_at(&rt, 1, 2);
+    ExitCode::SUCCESS
 }

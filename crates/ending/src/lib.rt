@@ -1,12 +1,15 @@
 // What a run ended with, told: a bad line, code and reference that differ, a file at fault.
+#![tactic(auto)]
+
+use files::Stream;
 use machine::Record;
 use scan::State;
 use start::Play;
 use text::{put, put_named};
 
 // A bad line: its number, and what was expected.
-fn tell_bad_line(p: Play, name: &[u8]) -> u8 {
-    let mut out = io::large_buffer();
+fn tell_bad_line(rt: &HostRuntime, p: Play, name: &[u8]) -> u8 {
+    let mut out = text::large_buffer();
     let entry = p.entry;
     let span = p.span;
     let a = put(&mut out, 0, b"chz: ");
@@ -15,7 +18,7 @@ fn tell_bad_line(p: Play, name: &[u8]) -> u8 {
     let d = put(&mut out, c, b": expected ");
     let e = trace::put_expected(&mut out, d, entry, span);
     let f = put(&mut out, e, b"\n");
-    files::write_first(libc::STDERR_FILENO, &out, f);
+    let _ = files::write_first(rt, Stream::Error, &out, f);
     status::FAILED
 }
 
@@ -44,7 +47,7 @@ fn put_difference(out: &mut [u8], at: usize, p: Play) -> usize {
 
 // That the translated code differs is proved impossible: whoever reads that has a broken machine or a broken build.
 // Code that was given may differ: it does not do what the sheet says.
-fn tell_difference(p: Play) -> u8 {
+fn tell_difference(rt: &HostRuntime, p: Play) -> u8 {
     let mut out = [0u8; 512];
     if p.source == start::GIVEN {
         let a = put(
@@ -53,7 +56,7 @@ fn tell_difference(p: Play) -> u8 {
             b"differs: the code from the reference, in scan ",
         );
         let b = put_difference(&mut out, a, p);
-        return status::tell(&out, b, status::REFUSED);
+        return status::tell(rt, &out, b, status::REFUSED);
     }
     let a = put(
         &mut out,
@@ -61,24 +64,32 @@ fn tell_difference(p: Play) -> u8 {
         b"chz: CODE AND REFERENCE DIFFER, use neither: scan ",
     );
     let b = put_difference(&mut out, a, p);
-    files::write_first(libc::STDERR_FILENO, &out, b);
+    let _ = files::write_first(rt, Stream::Error, &out, b);
     status::FAILED
 }
 
-// What a trace ended with, once all that stands on the page is written.
-pub fn tell_end(p: Play, page: &[u8], name: &[u8]) -> u8 {
-    if p.how == start::NOT_READ {
-        return status::file_fault(name);
+// A fault of a file that the play kept.
+fn tell_failed(rt: &HostRuntime, p: Play, name: &[u8]) -> u8 {
+    match p.failed {
+        Some(e) => status::file_fault(rt, name, &e),
+        None => status::FAILED,
     }
-    let q = start::flushed(p, page);
+}
+
+// What a trace ended with, once all that stands on the page is written.
+pub fn tell_end(rt: &HostRuntime, p: Play, page: &[u8], name: &[u8]) -> u8 {
+    if p.how == start::NOT_READ {
+        return tell_failed(rt, p, name);
+    }
+    let q = start::flushed(rt, p, page);
     if q.how == start::NOT_WRITTEN {
-        return status::file_fault(b"standard output");
+        return tell_failed(rt, q, b"standard output");
     }
     if p.how == start::BAD_LINE {
-        return tell_bad_line(p, name);
+        return tell_bad_line(rt, p, name);
     }
     if p.how == start::DIFFER {
-        return tell_difference(p);
+        return tell_difference(rt, p);
     }
     status::ACCEPTED
 }

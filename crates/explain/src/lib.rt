@@ -1,4 +1,6 @@
 // What a refusal says to a person: the paper's number, its name and place, and a sentence on where to look.
+#![tactic(auto)]
+
 use answer::Checked;
 use text::{put, put_nth, put_number};
 

@@ -1,5 +1,14 @@
 // Bytes to a file that is the old one or the whole new one, whatever happens between.
-use crate::{calls, fault};
+use crate::calls::Stream;
+use crate::{calls, fault, named};
+use std::fs::File;
+use std::io::{ErrorKind, Seek, SeekFrom, Write};
+use std::{fs, io, process};
+
+// The system's numbers for a call that the file has no meaning for, and for bytes that were lost.
+const INVALID: i32 = 22;
+
+const LOST: i32 = 5;
 
 // What came of writing: a file, a stream that got the bytes and nothing else, or a fault that was told.
 #[derive(Drop)]
@@ -15,7 +24,6 @@ enum Target {
     Output,
     Stream,
     File,
-    Fault,
 }
 
 fn begins(name: &[u8], start: &[u8]) -> bool {
@@ -23,15 +31,15 @@ fn begins(name: &[u8], start: &[u8]) -> bool {
     if name.len() < k {
         return false;
     }
-    check::same(&name[0..k], start)
+    text::same(&name[0..k], start)
 }
 
 // Whether a name is standard output's.
 pub fn is_output(name: &[u8]) -> bool {
-    if check::same(name, b"-") {
+    if text::same(name, b"-") {
         return true;
     }
-    check::same(name, b"/dev/stdout")
+    text::same(name, b"/dev/stdout")
 }
 
 // Whether a name is that of an open descriptor, which a new file must not replace.
@@ -42,61 +50,58 @@ fn is_descriptor(name: &[u8]) -> bool {
     if begins(name, b"/proc/") {
         return true;
     }
-    check::same(name, b"/dev/stderr")
+    text::same(name, b"/dev/stderr")
 }
 
 // What has no flush at all and no bytes to lose is no file on a disk: a pipe, a terminal, a device.
-fn kind_of(fd: i32, name: &[u8]) -> Target {
-    if libc::fsync(fd) == 0 {
-        return Target::File;
+fn kind_of(file: &mut File) -> io::Result<Target> {
+    match file.sync_all() {
+        Ok(()) => return Ok(Target::File),
+        Err(e) => if e.raw_os_error() != Some(INVALID) {
+            return Err(e);
+        },
     }
-    if os::errno() != libc::EINVAL {
-        fault::file_fault(name);
-        return Target::Fault;
+    match file.seek(SeekFrom::End(0)) {
+        Ok(0) => Ok(Target::Stream),
+        Ok(_) => Ok(Target::File),
+        Err(_) => Ok(Target::Stream),
     }
-    if 0 < libc::lseek(fd, 0, libc::SEEK_END) {
-        return Target::File;
-    }
-    Target::Stream
 }
 
 // A file that exists is opened for writing and left alone, so that one which may not be written stands.
-fn opened_target(name: &[u8]) -> Target {
-    let fd = os::open_update(name);
-    if fd < 0 {
-        if os::errno() == libc::ENOENT {
-            return Target::File;
+fn opened_target(rt: &HostRuntime, name: &[u8]) -> io::Result<Target> {
+    match named::open_update(rt, name) {
+        Ok(file) => {
+            let mut opened = file;
+            kind_of(&mut opened)
         }
-        fault::file_fault(name);
-        return Target::Fault;
+        Err(e) => {
+            if e.kind() == ErrorKind::NotFound {
+                return Ok(Target::File);
+            }
+            Err(e)
+        }
     }
-    let kind = kind_of(fd, name);
-    libc::close(fd);
-    kind
 }
 
-fn target_of(name: &[u8]) -> Target {
+fn target_of(rt: &HostRuntime, name: &[u8]) -> io::Result<Target> {
     if is_output(name) {
-        return Target::Output;
+        return Ok(Target::Output);
     }
     if is_descriptor(name) {
-        return Target::Stream;
+        return Ok(Target::Stream);
     }
-    opened_target(name)
+    opened_target(rt, name)
 }
 
 // How many bytes of a name are its folder, the last slash among them.
 fn folder_of(name: &[u8]) -> usize {
-    let mut end: usize = 0;
-    let mut i: usize = 0;
-    while i < name.len() {
-        let b = name[i];
-        i += 1;
-        if b == b'/' {
-            end = i;
+    for i in (0..name.len()).rev() {
+        if name[i] == b'/' {
+            return i + 1;
         }
     }
-    end
+    0
 }
 
 fn put_folder(out: &mut [u8], name: &[u8], end: usize) -> usize {
@@ -106,119 +111,131 @@ fn put_folder(out: &mut [u8], name: &[u8], end: usize) -> usize {
     0
 }
 
-// A process's number, which is above 0.
-fn unsigned(pid: i32) -> u64 {
-    if pid < 0 { 0 } else { pid as u64 }
-}
-
 // The name beside another: in its folder, with this process's number, by which the launcher knows it too.
-fn put_beside(out: &mut [u8], name: &[u8]) -> usize {
+fn put_beside(rt: &HostRuntime, out: &mut [u8], name: &[u8]) -> usize {
     let a = put_folder(out, name, folder_of(name));
     let b = text::put(out, a, b".chz-");
-    text::put_number(out, b, unsigned(libc::getpid()))
+    text::put_number(out, b, process::id(rt.process()) as u64)
 }
 
 // Writes, and waits until it has reached the disk.
-fn filled(fd: i32, bytes: &[u8], n: usize) -> bool {
-    let written = calls::write_first(fd, bytes, n);
-    if !written {
-        return false;
-    }
-    libc::fsync(fd) == 0
+fn filled(file: &mut File, bytes: &[u8]) -> io::Result<()> {
+    file.write_all(bytes)?;
+    file.sync_all()
 }
 
-// Fills the new file and closes it. A fault is told of the name that was meant.
-fn is_filled(fd: i32, name: &[u8], bytes: &[u8], n: usize) -> bool {
-    if !filled(fd, bytes, n) {
-        fault::file_fault(name);
-        libc::close(fd);
-        return false;
-    }
-    if libc::close(fd) < 0 {
-        fault::file_fault(name);
-        return false;
-    }
-    true
+// Fills the new file and closes it.
+fn fill(file: File, bytes: &[u8]) -> io::Result<()> {
+    let mut open = file;
+    filled(&mut open, bytes)
 }
 
-fn renamed(beside: &[u8], name: &[u8]) -> bool {
-    if os::rename(beside, name) < 0 {
-        fault::file_fault(name);
-        return false;
+// What closing a file has lost std does not say, so the size is asked for that it was left with.
+fn sized(rt: &HostRuntime, beside: &[u8], n: usize) -> io::Result<()> {
+    let left = fs::metadata(rt, named::path_of(beside)?)?;
+    if left.len() == n as u64 {
+        return Ok(());
     }
-    true
+    Err(io::Error::from_raw_os_error(LOST))
+}
+
+fn renamed(rt: &HostRuntime, beside: &[u8], name: &[u8]) -> io::Result<()> {
+    fs::rename(rt, named::path_of(beside)?, named::path_of(name)?)
+}
+
+fn removed(rt: &HostRuntime, beside: &[u8]) -> io::Result<()> {
+    fs::remove_file(rt, named::path_of(beside)?)
+}
+
+// Fills the new file and gives it its name.
+fn placed(
+    rt: &HostRuntime,
+    file: File,
+    beside: &[u8],
+    name: &[u8],
+    bytes: &[u8],
+) -> io::Result<()> {
+    fill(file, bytes)?;
+    sized(rt, beside, bytes.len())?;
+    renamed(rt, beside, name)
 }
 
 // A folder that gives no new file is a fault of the name that was meant, but for a file that is in the way.
-fn create_fault(beside: &[u8], name: &[u8]) -> Wrote {
-    if os::errno() == libc::EEXIST {
-        fault::file_fault(beside);
-        return Wrote::Fault;
+fn create_fault(rt: &HostRuntime, beside: &[u8], name: &[u8], e: &io::Error) -> Wrote {
+    if e.kind() == ErrorKind::AlreadyExists {
+        return faulted(rt, beside, e);
     }
-    fault::file_fault(name);
+    faulted(rt, name, e)
+}
+
+fn faulted(rt: &HostRuntime, name: &[u8], e: &io::Error) -> Wrote {
+    fault::file_fault(rt, name, e);
     Wrote::Fault
 }
 
-fn write_beside(beside: &[u8], name: &[u8], bytes: &[u8], n: usize) -> Wrote {
-    let fd = os::create(beside);
-    if fd < 0 {
-        return create_fault(beside, name);
-    }
-    if is_filled(fd, name, bytes, n) {
-        if renamed(beside, name) {
-            return Wrote::File;
+// A fault is told of the name that was meant.
+fn write_beside(rt: &HostRuntime, beside: &[u8], name: &[u8], bytes: &[u8]) -> Wrote {
+    let file = match named::create(rt, beside) {
+        Ok(file) => file,
+        Err(e) => return create_fault(rt, beside, name, &e),
+    };
+    match placed(rt, file, beside, name, bytes) {
+        Ok(()) => Wrote::File,
+        Err(e) => {
+            fault::file_fault(rt, name, &e);
+            let _ = removed(rt, beside);
+            Wrote::Fault
         }
     }
-    os::unlink(beside);
-    Wrote::Fault
 }
 
-fn write_with(all: &[u8], k: usize, name: &[u8], bytes: &[u8], n: usize) -> Wrote {
+fn write_with(rt: &HostRuntime, all: &[u8], k: usize, name: &[u8], bytes: &[u8]) -> Wrote {
     if k < all.len() {
-        return write_beside(&all[0..k], name, bytes, n);
+        return write_beside(rt, &all[0..k], name, bytes);
     }
-    fault::say(b"chz: the name of the code's file is too long\n");
+    fault::say(rt, b"chz: the name of the code's file is too long\n");
     Wrote::Fault
 }
 
-fn write_new(name: &[u8], bytes: &[u8], n: usize) -> Wrote {
-    let mut beside = io::buffer();
-    let k = put_beside(&mut beside, name);
-    write_with(&beside, k, name, bytes, n)
+fn write_new(rt: &HostRuntime, name: &[u8], bytes: &[u8]) -> Wrote {
+    let mut beside = text::buffer();
+    let k = put_beside(rt, &mut beside, name);
+    write_with(rt, &beside, k, name, bytes)
 }
 
 // At the stream's end: what it has is kept.
-fn write_stream(name: &[u8], bytes: &[u8], n: usize) -> Wrote {
-    let fd = os::open_append(name);
-    if fd < 0 {
-        fault::file_fault(name);
-        return Wrote::Fault;
-    }
-    let written = calls::write_first(fd, bytes, n);
-    if !written {
-        fault::file_fault(name);
-        libc::close(fd);
-        return Wrote::Fault;
-    }
-    libc::close(fd);
-    Wrote::Stream
+fn appended(rt: &HostRuntime, name: &[u8], bytes: &[u8]) -> io::Result<()> {
+    let mut file = named::open_append(rt, name)?;
+    file.write_all(bytes)
 }
 
-fn write_output(bytes: &[u8], n: usize) -> Wrote {
-    if calls::write_first(libc::STDOUT_FILENO, bytes, n) {
-        return Wrote::Stream;
+fn write_stream(rt: &HostRuntime, name: &[u8], bytes: &[u8]) -> Wrote {
+    match appended(rt, name, bytes) {
+        Ok(()) => Wrote::Stream,
+        Err(e) => faulted(rt, name, &e),
     }
-    fault::file_fault(b"standard output");
-    Wrote::Fault
+}
+
+fn write_output(rt: &HostRuntime, bytes: &[u8]) -> Wrote {
+    match calls::write_all(rt, Stream::Output, bytes) {
+        Ok(()) => Wrote::Stream,
+        Err(e) => faulted(rt, b"standard output", &e),
+    }
+}
+
+fn write_bytes(rt: &HostRuntime, name: &[u8], bytes: &[u8]) -> Wrote {
+    match target_of(rt, name) {
+        Ok(Target::Output) => write_output(rt, bytes),
+        Ok(Target::Stream) => write_stream(rt, name, bytes),
+        Ok(Target::File) => write_new(rt, name, bytes),
+        Err(e) => faulted(rt, name, &e),
+    }
 }
 
 // The first n bytes to the file or the stream of that name.
-pub fn write_file(name: &[u8], bytes: &[u8], n: usize) -> Wrote {
-    let target = target_of(name);
-    match target {
-        Target::Output => write_output(bytes, n),
-        Target::Stream => write_stream(name, bytes, n),
-        Target::File => write_new(name, bytes, n),
-        Target::Fault => Wrote::Fault,
+pub fn write_file(rt: &HostRuntime, name: &[u8], bytes: &[u8], n: usize) -> Wrote {
+    if n <= bytes.len() {
+        return write_bytes(rt, name, &bytes[0..n]);
     }
+    Wrote::Fault
 }

@@ -1,6 +1,9 @@
 // The words after a command: its options, each with a value, and its files. A word is named by its number, 0 for none.
+#![tactic(auto)]
 
-#[derive(Drop)]
+use std::env::{Env, FillError};
+
+#[derive(Clone, Copy)]
 pub struct Options {
     pub code: usize,
     pub sheet: usize,
@@ -14,7 +17,7 @@ pub struct Options {
 }
 
 // What a word is.
-#[derive(Drop)]
+#[derive(Clone, Copy)]
 enum Kind {
     Code,
     Sheet,
@@ -25,7 +28,7 @@ enum Kind {
 }
 
 // What a word's number is, up to the largest that 32 bits have.
-#[derive(Drop)]
+#[derive(Clone, Copy)]
 pub enum Number {
     Of(u64),
     Bad,
@@ -42,25 +45,25 @@ fn kind_of(word: &[u8]) -> Kind {
     if !is_option(word) {
         return Kind::File;
     }
-    if check::same(word, b"--code") {
+    if text::same(word, b"--code") {
         return Kind::Code;
     }
-    if check::same(word, b"--sheet") {
+    if text::same(word, b"--sheet") {
         return Kind::Sheet;
     }
-    if check::same(word, b"--state") {
+    if text::same(word, b"--state") {
         return Kind::State;
     }
-    if check::same(word, b"--clock") {
+    if text::same(word, b"--clock") {
         return Kind::Clock;
     }
     Kind::Unknown
 }
 
 // A word that is too long for any option is a file's name.
-fn kind_at(word: usize) -> Kind {
-    let mut text = io::buffer();
-    let n = os::arg(word, &mut text);
+fn kind_at(rt: &HostRuntime, word: usize) -> Kind {
+    let mut text = text::buffer();
+    let n = files::word_at(rt, word, &mut text);
     kind_of(&text[..n])
 }
 
@@ -93,8 +96,8 @@ fn with_file(o: Options, word: usize) -> Options {
 }
 
 // The options with a value, for the option at the word that lacks one.
-fn with_value(o: Options, value: usize) -> Options {
-    let kind = kind_at(o.lacking);
+fn with_value(rt: &HostRuntime, o: Options, value: usize) -> Options {
+    let kind = kind_at(rt, o.lacking);
     let mut r = o;
     r.lacking = 0;
     match kind {
@@ -120,11 +123,11 @@ fn with_value(o: Options, value: usize) -> Options {
 }
 
 // The options after one more word, which is the value that one lacks, an option or a file.
-fn with_word(o: Options, word: usize) -> Options {
+fn with_word(rt: &HostRuntime, o: Options, word: usize) -> Options {
     if o.lacking != 0 {
-        return with_value(o, word);
+        return with_value(rt, o, word);
     }
-    let kind = kind_at(word);
+    let kind = kind_at(rt, word);
     let mut r = o;
     match kind {
         Kind::File => with_file(o, word),
@@ -145,14 +148,24 @@ fn lacking_at(o: Options, word: usize) -> Options {
     r
 }
 
+// Whether there is a word of this number.
+fn is_given(rt: &HostRuntime, word: usize) -> bool {
+    let mut text = [0u8; 16];
+    match rt.arg(word, &mut text) {
+        Ok(_) => true,
+        Err(FillError::TooLong) => true,
+        Err(FillError::NotPresent) => false,
+    }
+}
+
 // All words from the first one on, up to one that is at fault.
-pub fn options_from(first: usize) -> Options {
-    let all = os::arg_count();
+pub fn options_from(rt: &HostRuntime, first: usize) -> Options {
     let mut r = no_options();
-    let mut i = first;
-    while i < all {
-        r = with_word(r, i);
-        i += 1;
+    for i in first..usize::MAX {
+        if !is_given(rt, i) {
+            return r;
+        }
+        r = with_word(rt, r, i);
         if r.unknown != 0 {
             return r;
         }
@@ -182,24 +195,21 @@ fn number_of(text: &[u8]) -> Number {
         return Number::Bad;
     }
     let mut n: u64 = 0;
-    let mut i: usize = 0;
-    while i < text.len() {
-        let more = with_digit(n, text[i]);
-        match more {
+    for b in text {
+        match with_digit(n, *b) {
             Number::Of(m) => n = m,
             Number::Bad => return Number::Bad,
         }
-        i += 1;
     }
     Number::Of(n)
 }
 
 // The number that a word is; 0 where there is no word.
-pub fn number_at(word: usize) -> Number {
+pub fn number_at(rt: &HostRuntime, word: usize) -> Number {
     if word == 0 {
         return Number::Of(0);
     }
-    let mut text = io::buffer();
-    let n = os::arg(word, &mut text);
+    let mut text = text::buffer();
+    let n = files::word_at(rt, word, &mut text);
     number_of(&text[..n])
 }

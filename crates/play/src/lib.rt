@@ -1,8 +1,13 @@
 // A trace played, a printed line a scan: code beside the reference, the two compared, or code alone.
+#![tactic(auto)]
+
 use answer::Checked;
 use machine::Record;
 use scan::State;
-use start::{ALONE, AT_END, BAD_LINE, DIFFER, GOING, NOT_READ, Play, flushed, plus, stopped};
+use start::{
+    ALONE, AT_END, BAD_LINE, DIFFER, GOING, NOT_READ, Play, failed, flushed, plus, stopped,
+};
+use std::io;
 use text::{put, put_named};
 
 // Room that a printed line never needs more of.
@@ -127,17 +132,17 @@ fn put_closing(page: &mut [u8], at: usize, p: Play) -> usize {
 }
 
 // Writes out the page where a further line might not fit.
-fn turned(p: Play, page: &[u8]) -> Play {
+fn turned(rt: &HostRuntime, p: Play, page: &[u8]) -> Play {
     if p.used <= page.len() {
         if ROOM <= page.len() - p.used {
             return p;
         }
     }
-    flushed(p, page)
+    flushed(rt, p, page)
 }
 
 // The scan of an entry that has one, printed.
-fn played(p: Play, sheet: &[u8], code: &[u8], page: &mut [u8]) -> Play {
+fn played(rt: &HostRuntime, p: Play, sheet: &[u8], code: &[u8], page: &mut [u8]) -> Play {
     let before = p.record;
     let done = scanned(p, sheet, code);
     if done.how != GOING {
@@ -147,7 +152,7 @@ fn played(p: Play, sheet: &[u8], code: &[u8], page: &mut [u8]) -> Play {
     let used = put_scan(page, done.used, done, before.flags != after.flags);
     let mut r = done;
     r.used = used;
-    turned(r, page)
+    turned(rt, r, page)
 }
 
 fn line_begun(p: Play) -> Play {
@@ -158,7 +163,7 @@ fn line_begun(p: Play) -> Play {
 }
 
 // A line that was read whole: its scan if it has one.
-fn line_ended(p: Play, sheet: &[u8], code: &[u8], page: &mut [u8]) -> Play {
+fn line_ended(rt: &HostRuntime, p: Play, sheet: &[u8], code: &[u8], page: &mut [u8]) -> Play {
     let entry = p.entry;
     let span = p.span;
     let whole = trace::at_end(entry, span);
@@ -171,7 +176,7 @@ fn line_ended(p: Play, sheet: &[u8], code: &[u8], page: &mut [u8]) -> Play {
     if !whole.whole {
         return line_begun(q);
     }
-    let done = played(q, sheet, code, page);
+    let done = played(rt, q, sheet, code, page);
     if done.how != GOING {
         return done;
     }
@@ -179,9 +184,16 @@ fn line_ended(p: Play, sheet: &[u8], code: &[u8], page: &mut [u8]) -> Play {
 }
 
 // The next byte of the trace.
-fn byte_taken(p: Play, b: u8, sheet: &[u8], code: &[u8], page: &mut [u8]) -> Play {
+fn byte_taken(
+    rt: &HostRuntime,
+    p: Play,
+    b: u8,
+    sheet: &[u8],
+    code: &[u8],
+    page: &mut [u8],
+) -> Play {
     if b == b'\n' {
-        return line_ended(p, sheet, code, page);
+        return line_ended(rt, p, sheet, code, page);
     }
     let entry = p.entry;
     let span = p.span;
@@ -195,13 +207,17 @@ fn byte_taken(p: Play, b: u8, sheet: &[u8], code: &[u8], page: &mut [u8]) -> Pla
 }
 
 // The bytes of a part of the trace, up to one that ends it.
-fn part_taken(p: Play, part: &[u8], sheet: &[u8], code: &[u8], page: &mut [u8]) -> Play {
+fn part_taken(
+    rt: &HostRuntime,
+    p: Play,
+    part: &[u8],
+    sheet: &[u8],
+    code: &[u8],
+    page: &mut [u8],
+) -> Play {
     let mut r = p;
-    let mut i: usize = 0;
-    while i < part.len() {
-        let b = part[i];
-        i += 1;
-        r = byte_taken(r, b, sheet, code, page);
+    for b in part {
+        r = byte_taken(rt, r, *b, sheet, code, page);
         if r.how != GOING {
             return r;
         }
@@ -224,8 +240,15 @@ fn trace_ended(p: Play, page: &mut [u8]) -> Play {
 }
 
 // A trace that is held whole.
-pub fn whole_taken(p: Play, part: &[u8], sheet: &[u8], code: &[u8], page: &mut [u8]) -> Play {
-    let r = part_taken(p, part, sheet, code, page);
+pub fn whole_taken(
+    rt: &HostRuntime,
+    p: Play,
+    part: &[u8],
+    sheet: &[u8],
+    code: &[u8],
+    page: &mut [u8],
+) -> Play {
+    let r = part_taken(rt, p, part, sheet, code, page);
     if r.how != GOING {
         return r;
     }
@@ -233,30 +256,38 @@ pub fn whole_taken(p: Play, part: &[u8], sheet: &[u8], code: &[u8], page: &mut [
 }
 
 // One read of the trace. The page is written out first, so that whoever types a trace sees each answer.
-fn read_on(p: Play, fd: i32, sheet: &[u8], code: &[u8], page: &mut [u8]) -> Play {
-    let q = flushed(p, page);
+fn read_on<R: io::Read>(
+    rt: &HostRuntime,
+    p: Play,
+    from: &mut R,
+    sheet: &[u8],
+    code: &[u8],
+    page: &mut [u8],
+) -> Play {
+    let q = flushed(rt, p, page);
     if q.how != GOING {
         return q;
     }
-    let mut part = io::large_buffer();
-    let got = files::read_some(fd, &mut part);
-    if got < 0 {
-        return stopped(q, NOT_READ);
+    let mut part = text::large_buffer();
+    match files::read_some(from, &mut part) {
+        Err(e) => failed(q, NOT_READ, e),
+        Ok(0) => trace_ended(q, page),
+        Ok(n) => part_taken(rt, q, &part[..n], sheet, code, page),
     }
-    if got == 0 {
-        return trace_ended(q, page);
-    }
-    let n = io::count(got, &part);
-    part_taken(q, &part[..n], sheet, code, page)
 }
 
-// The whole trace. The loop counts its turns down from a number that no run uses up: nothing says that a file ends.
-pub fn all_read(p: Play, fd: i32, sheet: &[u8], code: &[u8], page: &mut [u8]) -> Play {
+// The whole trace. The loop counts its turns up to a number that no run uses up: nothing says that a file ends.
+pub fn all_read<R: io::Read>(
+    rt: &HostRuntime,
+    p: Play,
+    from: &mut R,
+    sheet: &[u8],
+    code: &[u8],
+    page: &mut [u8],
+) -> Play {
     let mut r = p;
-    let mut turns = u64::MAX;
-    while turns > 0 {
-        turns -= 1;
-        r = read_on(r, fd, sheet, code, page);
+    for _ in 0..u64::MAX {
+        r = read_on(rt, r, from, sheet, code, page);
         if r.how != GOING {
             return r;
         }

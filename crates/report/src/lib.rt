@@ -1,7 +1,10 @@
 // What is said of a sheet and of code, and the command that checks them.
+#![tactic(auto)]
+
 use answer::Checked;
-use files::Read;
+use files::{Read, Stream};
 use reader::{Decoded, How};
+use std::io;
 use text::{put, put_count};
 
 fn bits_of(how: How) -> usize {
@@ -50,85 +53,87 @@ fn put_code(out: &mut [u8], at: usize, length: usize) -> usize {
     put_item(out, a, length as u64, b"byte", b'\n')
 }
 
-pub fn tell_refused(fd: i32, verdict: Checked) -> u8 {
+pub fn tell_refused(rt: &HostRuntime, stream: Stream, verdict: Checked) -> u8 {
     let mut out = [0u8; 512];
     let n = explain::put_refusal(&mut out, 0, verdict);
-    status::tell_on(fd, &out, n, status::REFUSED)
+    status::tell_on(rt, stream, &out, n, status::REFUSED)
 }
 
-fn tell_sheet(sheet: &[u8]) -> u8 {
+fn tell_sheet(rt: &HostRuntime, sheet: &[u8]) -> u8 {
     let mut out = [0u8; 512];
     let n = put_accepted_sheet(&mut out, 0, sheet);
-    status::tell(&out, n, status::ACCEPTED)
+    status::tell(rt, &out, n, status::ACCEPTED)
 }
 
-pub fn tell_code(fd: i32, name: &[u8], length: usize) -> u8 {
+pub fn tell_code(rt: &HostRuntime, stream: Stream, name: &[u8], length: usize) -> u8 {
     let mut out = [0u8; 128];
     let a = put(&mut out, 0, name);
     let n = put_code(&mut out, a, length);
-    status::tell_on(fd, &out, n, status::ACCEPTED)
+    status::tell_on(rt, stream, &out, n, status::ACCEPTED)
+}
+
+fn read_named(rt: &HostRuntime, name: &[u8], all: &mut [u8]) -> io::Result<usize> {
+    let mut file = files::open_read(rt, name)?;
+    files::read_all(&mut file, all)
+}
+
+fn not_read(rt: &HostRuntime, name: &[u8], e: &io::Error) -> Read {
+    status::file_fault(rt, name, e);
+    Read::Fault
 }
 
 // Reads the file that a word names, to its end or to the buffer's.
-pub fn read_file(word: usize, all: &mut [u8]) -> Read {
-    let mut name = io::buffer();
-    let n = os::arg(word, &mut name);
-    if os::errno() != 0 {
-        status::file_fault(b"a file's name");
-        return Read::Fault;
+pub fn read_file(rt: &HostRuntime, word: usize, all: &mut [u8]) -> Read {
+    let mut name = text::buffer();
+    let n = match files::name_at(rt, word, &mut name) {
+        Ok(n) => n,
+        Err(e) => return not_read(rt, b"a file's name", &e),
+    };
+    match read_named(rt, &name[..n], all) {
+        Ok(read) => Read::Bytes(read),
+        Err(e) => not_read(rt, &name[..n], &e),
     }
-    let fd = os::open_read(&name[..n]);
-    if fd < 0 {
-        status::file_fault(&name[..n]);
-        return Read::Fault;
-    }
-    let read = files::read_all(fd, all);
-    if let Read::Fault = read {
-        status::file_fault(&name[..n]);
-    }
-    libc::close(fd);
-    read
 }
 
-pub fn check_sheet(all: &[u8], n: usize) -> u8 {
+pub fn check_sheet(rt: &HostRuntime, all: &[u8], n: usize) -> u8 {
     if all.len() < n {
         return status::FAILED;
     }
     let sheet = &all[0..n];
     let verdict = sheet::check_sheet(sheet);
     match verdict {
-        Checked::Accepted => tell_sheet(sheet),
-        Checked::Refused(_) => tell_refused(libc::STDOUT_FILENO, verdict),
+        Checked::Accepted => tell_sheet(rt, sheet),
+        Checked::Refused(_) => tell_refused(rt, Stream::Output, verdict),
     }
 }
 
-fn check_code(all: &[u8], n: usize) -> u8 {
+fn check_code(rt: &HostRuntime, all: &[u8], n: usize) -> u8 {
     if all.len() < n {
         return status::FAILED;
     }
     let verdict = faults::check_code(&all[0..n]);
     match verdict {
-        Checked::Accepted => tell_code(libc::STDOUT_FILENO, b"accepted:", n),
-        Checked::Refused(_) => tell_refused(libc::STDOUT_FILENO, verdict),
+        Checked::Accepted => tell_code(rt, Stream::Output, b"accepted:", n),
+        Checked::Refused(_) => tell_refused(rt, Stream::Output, verdict),
     }
 }
 
 // 4,096 bytes of a sheet are enough for the right answer on any file: the theorem `first_bytes` of the crate `rules`.
-pub fn check_command(word: usize) -> u8 {
-    let mut all = io::buffer();
-    let read = read_file(word, &mut all);
+pub fn check_command(rt: &HostRuntime, word: usize) -> u8 {
+    let mut all = text::buffer();
+    let read = read_file(rt, word, &mut all);
     match read {
-        Read::Bytes(n) => check_sheet(&all, n),
+        Read::Bytes(n) => check_sheet(rt, &all, n),
         Read::Fault => status::FAILED,
     }
 }
 
 // 65,536 bytes of code are enough: more than 32,768 are refused whatever they are.
-pub fn check_code_command(word: usize) -> u8 {
-    let mut all = io::large_buffer();
-    let read = read_file(word, &mut all);
+pub fn check_code_command(rt: &HostRuntime, word: usize) -> u8 {
+    let mut all = text::large_buffer();
+    let read = read_file(rt, word, &mut all);
     match read {
-        Read::Bytes(n) => check_code(&all, n),
+        Read::Bytes(n) => check_code(rt, &all, n),
         Read::Fault => status::FAILED,
     }
 }

@@ -1,8 +1,12 @@
 // What is kept of a run between scans, and the records that it begins with: the cold start, or a state and a clock that were asked for.
+#![tactic(auto)]
+
 use answer::Checked;
+use files::Stream;
 use machine::Record;
 use reader::Decoded;
 use scan::State;
+use std::io;
 use trace::{Entry, Span};
 
 // How a trace goes on or ends.
@@ -25,8 +29,9 @@ pub const GIVEN: u8 = 1;
 
 pub const ALONE: u8 = 2;
 
-// All that is kept between scans: both records, the entry being read, and how much of the page is filled.
-#[derive(Drop)]
+// All that is kept between scans: both records, the entry being read, how much of the page is filled, and why a file
+// failed.
+#[derive(Clone, Copy)]
 pub struct Play {
     pub how: u8,
     pub source: u8,
@@ -40,10 +45,11 @@ pub struct Play {
     pub entry: Entry,
     pub record: Record,
     pub state: State,
+    pub failed: Option<io::Error>,
 }
 
 // Where a run begins: a state and a clock, or the cold start.
-#[derive(Drop)]
+#[derive(Clone, Copy)]
 pub struct Start {
     pub cold: bool,
     pub state: u8,
@@ -69,7 +75,7 @@ fn row_of(rows: &[u16; 32], state: u8) -> u16 {
 fn outputs_in(sheet: &[u8], state: u8) -> u16 {
     let mut rows = [0u16; 32];
     let mut lines = [0u64; 128];
-    reader::read_sheet(sheet, &mut rows, &mut lines);
+    let _ = reader::read_sheet(sheet, &mut rows, &mut lines);
     row_of(&rows, state)
 }
 
@@ -96,6 +102,7 @@ fn begin(source: u8, cold: bool, span: Span, outputs: u32, record: Record, state
         entry: entry,
         record: record,
         state: state,
+        failed: None,
     }
 }
 
@@ -158,13 +165,19 @@ pub fn stopped(p: Play, how: u8) -> Play {
     r
 }
 
+pub fn failed(p: Play, how: u8, e: io::Error) -> Play {
+    let mut r = p;
+    r.how = how;
+    r.failed = Some(e);
+    r
+}
+
 // Writes out the page.
-pub fn flushed(p: Play, page: &[u8]) -> Play {
-    let written = files::write_first(libc::STDOUT_FILENO, page, p.used);
+pub fn flushed(rt: &HostRuntime, p: Play, page: &[u8]) -> Play {
     let mut r = p;
     r.used = 0;
-    if written {
-        return r;
+    match files::write_first(rt, Stream::Output, page, p.used) {
+        Ok(()) => r,
+        Err(e) => failed(r, NOT_WRITTEN, e),
     }
-    stopped(r, NOT_WRITTEN)
 }

@@ -1,5 +1,7 @@
 // The columns of a run. Their widths hold the largest numbers that can occur: 15 digits of scans take a hundred years,
 // 20 are the most that a sum of times has, and inputs and outputs have as many columns as the sheet has of them.
+#![tactic(auto)]
+
 use machine::Record;
 use text::{put, put_left_column, put_number_column, put_text_column};
 

@@ -1,5 +1,21 @@
 // Text in a buffer: numbers, bits and names in columns. Each function puts what fits from `at` on and answers the place
 // after it, so that none asks for room.
+#![tactic(auto)]
+
+ghost use Rattle.std.specs.Prelude.{◌<◌, ◌≤◌};
+
+// 4,096 zeros, which hold any name, and 65,536, for what moves much.
+pub fn buffer() -> [u8; 4096] {
+    [0; 4096]
+}
+
+pub fn large_buffer() -> [u8; 65536] {
+    [0; 65536]
+}
+
+pub fn same(a: &[u8], b: &[u8]) -> bool {
+    a == b
+}
 
 pub fn put_byte(out: &mut [u8], at: usize, b: u8) -> usize {
     if at < out.len() {
@@ -23,10 +39,8 @@ fn next(n: u32) -> u32 {
 
 pub fn put(out: &mut [u8], at: usize, text: &[u8]) -> usize {
     let mut to = at;
-    let mut i: usize = 0;
-    while i < text.len() {
-        to = put_byte(out, to, text[i]);
-        i += 1;
+    for b in text {
+        to = put_byte(out, to, *b);
     }
     to
 }
@@ -45,10 +59,8 @@ fn shown(b: u8) -> u8 {
 // A name that came from outside.
 pub fn put_name(out: &mut [u8], at: usize, name: &[u8]) -> usize {
     let mut to = at;
-    let mut i: usize = 0;
-    while i < name.len() {
-        to = put_byte(out, to, shown(name[i]));
-        i += 1;
+    for b in name {
+        to = put_byte(out, to, shown(*b));
     }
     to
 }
@@ -56,10 +68,8 @@ pub fn put_name(out: &mut [u8], at: usize, name: &[u8]) -> usize {
 // The blanks that bring a text of `size` bytes to the width.
 pub fn put_blanks(out: &mut [u8], at: usize, size: usize, width: usize) -> usize {
     let mut to = at;
-    let mut i = size;
-    while i < width {
+    for _ in size..width {
         to = put_byte(out, to, b' ');
-        i += 1;
     }
     to
 }
@@ -68,41 +78,70 @@ pub fn put_blanks(out: &mut [u8], at: usize, size: usize, width: usize) -> usize
 pub fn put_nth(out: &mut [u8], at: usize, texts: &[u8], n: u32) -> usize {
     let mut to = at;
     let mut passed: u32 = 0;
-    let mut i: usize = 0;
-    while i < texts.len() {
-        let b = texts[i];
-        i += 1;
-        if b == b'|' {
+    for b in texts {
+        if *b == b'|' {
             if passed == n {
                 return to;
             }
             passed = next(passed);
         } else {
-            to = put_if(out, to, b, passed == n);
+            to = put_if(out, to, *b, passed == n);
         }
     }
     to
 }
 
-pub fn put_number(out: &mut [u8], at: usize, n: u64) -> usize {
-    let mut digits = [0u8; 20];
-    let k = io::decimal(n, &mut digits);
-    put(out, at, &digits[..k])
+// The decimal digits of a number, at the end of the twenty that there can be: where they begin.
+fn digits_of(n: u64, digits: &mut [u8; 20]) -> usize
+    ensures { result ≤ 20 }
+{
+    let mut rest = n;
+    for i in (0..20).rev() {
+        digits[i] = b'0' + (rest % 10) as u8;
+        rest /= 10;
+        if rest == 0 {
+            return i;
+        }
+    }
+    0
 }
 
-// A word as eight hexadecimal digits.
+pub fn put_number(out: &mut [u8], at: usize, n: u64) -> usize {
+    let mut digits = [0u8; 20];
+    let k = digits_of(n, &mut digits);
+    put(out, at, &digits[k..])
+}
+
+fn hex_digit(d: u64) -> u8
+    requires { d < 16 }
+{
+    if d < 10 {
+        b'0' + d as u8
+    } else {
+        b'a' + (d - 10) as u8
+    }
+}
+
+// A word as hexadecimal digits, eight of them at the least.
 pub fn put_hex(out: &mut [u8], at: usize, n: u64) -> usize {
-    let mut digits = [0u8; 16];
-    let k = io::hex(n, 8, &mut digits);
-    put(out, at, &digits[..k])
+    let mut to = at;
+    let mut rest = n;
+    let mut begun = false;
+    for i in 0..16 {
+        rest = rest.rotate_left(4);
+        let d = rest % 16;
+        begun = begun | (d != 0) | (8 <= i);
+        to = put_if(out, to, hex_digit(d), begun);
+    }
+    to
 }
 
 // A number at the right of a width.
 pub fn put_number_right(out: &mut [u8], at: usize, n: u64, width: usize) -> usize {
     let mut digits = [0u8; 20];
-    let k = io::decimal(n, &mut digits);
-    let start = put_blanks(out, at, k, width);
-    put(out, start, &digits[..k])
+    let k = digits_of(n, &mut digits);
+    let start = put_blanks(out, at, 20 - k, width);
+    put(out, start, &digits[k..])
 }
 
 // A text at the right of a width.
@@ -131,11 +170,9 @@ fn bit_text(w: u32) -> u8 {
 fn put_bits(out: &mut [u8], at: usize, w: u32, n: usize) -> usize {
     let mut to = at;
     let mut rest = w;
-    let mut i: usize = 0;
-    while i < n {
+    for _ in 0..n {
         to = put_byte(out, to, bit_text(rest));
         rest = rest / 2;
-        i += 1;
     }
     to
 }

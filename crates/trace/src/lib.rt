@@ -1,5 +1,7 @@
 // An entry of a trace, read from text: a scan a line, its input bits (input 0 first) and its elapsed ms, as `110 99`; #
 // starts a comment. It is read a byte at a time, so that a line may have any length and nothing is held.
+#![tactic(auto)]
+
 use text::{put, put_count, put_nth, put_number};
 
 // How far an entry was read.
@@ -37,7 +39,7 @@ const LONE_RETURN: u8 = 8;
 const CUT: u8 = 9;
 
 // How many input bits an entry has: as many as the sheet has inputs, or any number that code can look at.
-#[derive(Drop)]
+#[derive(Clone, Copy)]
 pub struct Span {
     pub least: u32,
     pub most: u32,
@@ -45,7 +47,7 @@ pub struct Span {
 
 // An entry as far as it was read: its phase, whether a byte was read at all and a carriage return last, whether it has
 // a whole scan, its input word with the count of bits, its ms.
-#[derive(Drop)]
+#[derive(Clone, Copy)]
 pub struct Entry {
     pub phase: u8,
     pub fault: u8,
