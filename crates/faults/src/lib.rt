@@ -14,7 +14,7 @@ ghost use Rattle.faults.specs.inside.Marks.{marked, noted, jumps, stepped, PassT
 use answer::{Checked, Found, Refusal};
 
 // What follows a word: it is at fault; or it is a jump, and as many parentheses are open as before it; or so many are open.
-#[derive(Drop)]
+#[derive(Clone, Copy)]
 enum After {
     Fault,
     Jump,
@@ -22,7 +22,7 @@ enum After {
 }
 
 // What one pass over the words tells: the first at fault; or, where none is, whether some jump lands inside a parenthesis.
-#[derive(Drop)]
+#[derive(Clone, Copy)]
 enum Pass {
     Fault(usize),
     Landing,

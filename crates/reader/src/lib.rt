@@ -15,7 +15,7 @@ use bits::{Cursor, Got};
 use condition::CondRead;
 
 // The header's four numbers.
-#[derive(Drop)]
+#[derive(Clone, Copy)]
 pub struct Header {
     pub states: u32,
     pub inputs: u32,
@@ -53,20 +53,20 @@ pub struct Decoded {
 }
 
 // How the header was read, and where it was, its numbers.
-#[derive(Drop)]
+#[derive(Clone, Copy)]
 pub struct HeadRead {
     pub how: How,
     pub header: Header,
 }
 
 // The answers of the steps below: what was read with the cursor after it, or the refusal.
-#[derive(Drop)]
+#[derive(Clone, Copy)]
 pub enum RowRead {
     Row(u16, Cursor),
     Bad(Refusal),
 }
 
-#[derive(Drop)]
+#[derive(Clone, Copy)]
 pub enum NamesRead {
     Names(u8, u8, Cursor),
     Bad(Refusal),

@@ -25,7 +25,7 @@ pub struct State {
 }
 
 // A scan's answer: where it is refused, the record is the one that was given.
-#[derive(Drop)]
+#[derive(Clone, Copy)]
 pub struct Scanned {
     pub verdict: Checked,
     pub record: State,
@@ -52,7 +52,7 @@ fn scanned_with(verdict: Checked, record: State) -> Scanned
 }
 
 // The best transition met so far, if one was met.
-#[derive(Drop)]
+#[derive(Clone, Copy)]
 pub enum Pick {
     Nothing,
     Best(u8, u8),

@@ -13,7 +13,7 @@ use answer::{Checked, Found, Refusal};
 use reader::{Arrow, Decoded, How};
 
 // What a sheet's bytes are found to be: the verdict, and the decoded copy where it accepts.
-#[derive(Drop)]
+#[derive(Clone, Copy)]
 pub struct Opened {
     pub verdict: Checked,
     pub decoded: Decoded,

@@ -7,7 +7,7 @@ ghost use Rattle.walk.specs.inside.Walking.{walk_at, Down, Downward, Walks, Walk
 
 // The next bit; what waits, a digit of base 4 for each, the innermost in the lowest, below a 1: 1 NOT, 2 AND and 3 OR before their second operand,
 // 0 a parenthesis to close; and whether an operand has just been finished.
-#[derive(Drop)]
+#[derive(Clone, Copy)]
 pub struct Walk {
     pub at: usize,
     pub pending: u64,
@@ -16,7 +16,7 @@ pub struct Walk {
 
 // An item, its operand and the walk behind it; or the condition is done. The item is the code byte of its word: 2 an input, whose
 // number is the operand; 3 NOT; 4 AND(; 5 OR(; 6 ).
-#[derive(Drop)]
+#[derive(Clone, Copy)]
 pub enum Step {
     Item(u8, u32, Walk),
     Done,

@@ -14,7 +14,7 @@ returns-in_default c = rw (sym c.in_default.ensures)
 
 pub returns-then-inputs-i : goal.returns-then-inputs-i
 unfolding input_at eval word_count form_of
-returns-then-inputs-i c = rw (sym c.in-Field.ensures, le-ltb _ _ c.if-inputs-i.true)
+returns-then-inputs-i c = rw (sym c.in-Field.ensures, le-ltb c.in-Field.i c.args.inputs (omega arith))
 
 pub get_bit-value-requires : goal.get_bit-value-requires
 get_bit-value-requires c = omega (arith, (field-got _ _ _ _ _ (sym c.in-Field.ensures)).below)
@@ -22,9 +22,9 @@ get_bit-value-requires c = omega (arith, (field-got _ _ _ _ _ (sym c.in-Field.en
 pub returns-then-i-eq0 : goal.returns-then-i-eq0
 unfolding input_at eval word_count form_of
 returns-then-i-eq0 c =
-    rw (sym c.in-Field.ensures, lt-ltb _ _ c.if-inputs-i.false, c.get_bit-value.ensures, eq-eqb _ _ c.if-i-eq0.true)
+    rw (sym c.in-Field.ensures, lt-ltb c.in-Field.i c.args.inputs (omega arith), c.get_bit-value.ensures, eq-eqb _ _ c.if-i-eq0.true)
 
 pub returns : goal.returns
 unfolding input_at eval word_count form_of
 returns c =
-    rw (sym c.in-Field.ensures, lt-ltb _ _ c.if-inputs-i.false, c.get_bit-value.ensures, ne_eqb _ _ c.if-i-eq0.false)
+    rw (sym c.in-Field.ensures, lt-ltb c.in-Field.i c.args.inputs (omega arith), c.get_bit-value.ensures, ne_eqb _ _ c.if-i-eq0.false)
