@@ -450,19 +450,25 @@ fi
 
 # The build shows how far it is: a launcher in a folder of its own, with an rt that only says what rt says.
 if [ "$(uname -m)" = x86_64 ]; then
-    mkdir -p "build here/crates" bin
+    mkdir -p "build here/crates/chz" bin
     cp "$root/chz" "build here/chz"
     printf '# crates\none:\ntwo: one io\nother: one\nchz: two one libc\n' >"build here/crates.txt"
     cat >bin/rt <<'RT'
 #!/bin/sh
+# In the folder of the crate: 'rt run -- version'.
+[ "$(basename "$PWD") $*" = 'chz run -- version' ] || exit 1
 echo 'rt: one proved (7 s)'
+echo 'crate one: modules loaded=0 checked=7'
+echo 'logic=proved functions=1'
 sleep 1.5
 echo 'rt: two proved (unchanged since it was last proved)'
+echo 'crate two: modules loaded=7 checked=0'
+echo 'logic=proved functions=1'
 sleep 1.5
-[ ! -e broken ] || { echo 'rt: chz NOT PROVED (exit 1, 2 s)'; exit 1; }
-mkdir -p target/bin
-printf '#!/bin/sh\necho built; dd bs=1 count=1 <&3 >/dev/null 2>&1\n' >target/bin/chz
-chmod +x target/bin/chz
+[ ! -e ../../broken ] || { echo 'crate chz: modules loaded=0 checked=7'; echo 'logic=not-proved'; echo 'rt: chz NOT PROVED (exit 1, 2 s)'; exit 1; }
+mkdir -p out
+printf '#!/bin/sh\necho built\n' >out/chz
+chmod +x out/chz
 RT
     chmod +x bin/rt
     : >"build here/broken"

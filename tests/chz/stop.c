@@ -19,10 +19,12 @@
 #include <stdbool.h>
 #include <stdlib.h>
 #include <string.h>
+#include <sys/stat.h>
 #include <unistd.h>
 
 static long calls;
 static bool full;
+static int made = -1; /* the file that the program has made and not closed yet */
 
 static long asked(const char *name)
 {
@@ -79,9 +81,6 @@ ssize_t write(int fd, const void *bytes, size_t n)
 ssize_t read(int fd, void *bytes, size_t n)
 {
     ssize_t (*next)(int, void *, size_t) = (ssize_t(*)(int, void *, size_t))dlsym(RTLD_NEXT, "read");
-    if (fd == 3) {
-        return next(fd, bytes, n);
-    }
     if (interrupted()) {
         return -1;
     }
@@ -95,13 +94,32 @@ int open(const char *name, int flags, ...)
     va_start(more, flags);
     mode_t mode = va_arg(more, mode_t);
     va_end(more);
-    return fails() ? -1 : next(name, flags, mode);
+    int fd = fails() ? -1 : next(name, flags, mode);
+    if (flags & O_CREAT) {
+        made = fd;
+    }
+    return fd;
 }
 
+/*
+ * The program does not hear of a close that fails. After that of the file that it has made it asks for the file's size,
+ * and that call is the one that counts.
+ */
 int close(int fd)
 {
     int (*next)(int) = (int (*)(int))dlsym(RTLD_NEXT, "close");
+    if (fd == made) {
+        made = -1;
+        return next(fd);
+    }
     return fails() ? -1 : next(fd);
+}
+
+int statx(int folder, const char *name, int flags, unsigned int mask, struct statx *found)
+{
+    int (*next)(int, const char *, int, unsigned int, struct statx *) =
+        (int (*)(int, const char *, int, unsigned int, struct statx *))dlsym(RTLD_NEXT, "statx");
+    return fails() ? -1 : next(folder, name, flags, mask, found);
 }
 
 int fsync(int fd)

@@ -76,6 +76,13 @@ fn tell_failed(rt: &HostRuntime, p: Play, name: &[u8]) -> u8 {
     }
 }
 
+fn tell_unwritten(rt: &HostRuntime, p: Play) -> u8 {
+    match p.failed {
+        Some(e) => status::written(rt, Err(e), status::FAILED),
+        None => status::FAILED,
+    }
+}
+
 // What a trace ended with, once all that stands on the page is written.
 pub fn tell_end(rt: &HostRuntime, p: Play, page: &[u8], name: &[u8]) -> u8 {
     if p.how == start::NOT_READ {
@@ -83,7 +90,7 @@ pub fn tell_end(rt: &HostRuntime, p: Play, page: &[u8], name: &[u8]) -> u8 {
     }
     let q = start::flushed(rt, p, page);
     if q.how == start::NOT_WRITTEN {
-        return tell_failed(rt, q, b"standard output");
+        return tell_unwritten(rt, q);
     }
     if p.how == start::BAD_LINE {
         return tell_bad_line(rt, p, name);

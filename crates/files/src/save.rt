@@ -10,11 +10,13 @@ const INVALID: i32 = 22;
 
 const LOST: i32 = 5;
 
-// What came of writing: a file, a stream that got the bytes and nothing else, or a fault that was told.
+// What came of writing: a file, a stream that got the bytes and nothing else, one that nobody reads, or a fault that was
+// told.
 #[derive(Drop)]
 pub enum Wrote {
     File,
     Stream,
+    Closed,
     Fault,
 }
 
@@ -203,6 +205,13 @@ fn write_new(rt: &HostRuntime, name: &[u8], bytes: &[u8]) -> Wrote {
     write_with(rt, &beside, k, name, bytes)
 }
 
+fn stream_fault(rt: &HostRuntime, name: &[u8], e: &io::Error) -> Wrote {
+    if e.kind() == ErrorKind::BrokenPipe {
+        return Wrote::Closed;
+    }
+    faulted(rt, name, e)
+}
+
 // At the stream's end: what it has is kept.
 fn appended(rt: &HostRuntime, name: &[u8], bytes: &[u8]) -> io::Result<()> {
     let mut file = named::open_append(rt, name)?;
@@ -212,14 +221,14 @@ fn appended(rt: &HostRuntime, name: &[u8], bytes: &[u8]) -> io::Result<()> {
 fn write_stream(rt: &HostRuntime, name: &[u8], bytes: &[u8]) -> Wrote {
     match appended(rt, name, bytes) {
         Ok(()) => Wrote::Stream,
-        Err(e) => faulted(rt, name, &e),
+        Err(e) => stream_fault(rt, name, &e),
     }
 }
 
 fn write_output(rt: &HostRuntime, bytes: &[u8]) -> Wrote {
     match calls::write_all(rt, Stream::Output, bytes) {
         Ok(()) => Wrote::Stream,
-        Err(e) => faulted(rt, b"standard output", &e),
+        Err(e) => stream_fault(rt, b"standard output", &e),
     }
 }
 

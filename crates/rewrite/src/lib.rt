@@ -18,6 +18,7 @@ fn save_code(rt: &HostRuntime, name: &[u8], code: &[u8], length: usize) -> u8 {
     match wrote {
         Wrote::File => tell_code(rt, Stream::Output, b"translated:", length),
         Wrote::Stream => tell_code(rt, Stream::Error, b"translated:", length),
+        Wrote::Closed => status::CLOSED,
         Wrote::Fault => status::FAILED,
     }
 }

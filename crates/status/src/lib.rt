@@ -3,6 +3,7 @@
 
 use files::Stream;
 use std::io;
+use std::io::ErrorKind;
 
 pub const ACCEPTED: u8 = 0;
 
@@ -10,6 +11,9 @@ pub const REFUSED: u8 = 1;
 
 // Usage, a file, or a bad line of a trace.
 pub const FAILED: u8 = 2;
+
+// Nobody reads what is written: the program says nothing and ends as one that the system's signal for that ends.
+pub const CLOSED: u8 = 141;
 
 fn way_to_learn_more(rt: &HostRuntime) -> u8 {
     files::say(rt, b"'chz help' shows the commands\n");
@@ -48,7 +52,11 @@ pub fn file_fault(rt: &HostRuntime, name: &[u8], e: &io::Error) -> u8 {
 pub fn written(rt: &HostRuntime, done: io::Result<()>, status: u8) -> u8 {
     match done {
         Ok(()) => status,
-        Err(e) => file_fault(rt, b"standard output", &e),
+        Err(e) => if e.kind() == ErrorKind::BrokenPipe {
+            CLOSED
+        } else {
+            file_fault(rt, b"standard output", &e)
+        },
     }
 }
 
