@@ -25,6 +25,7 @@
 static long calls;
 static bool full;
 static int made = -1; /* the file that the program has made and not closed yet */
+static bool closed;   /* whether it has made one and closed it */
 
 static long asked(const char *name)
 {
@@ -103,13 +104,14 @@ int open(const char *name, int flags, ...)
 
 /*
  * The program does not hear of a close that fails. After that of the file that it has made it asks for the file's size,
- * and that call is the one that counts.
+ * and that call is the one that counts. Before, it only asks whether a name is a pipe's, and goes on where that fails.
  */
 int close(int fd)
 {
     int (*next)(int) = (int (*)(int))dlsym(RTLD_NEXT, "close");
     if (fd == made) {
         made = -1;
+        closed = true;
         return next(fd);
     }
     return fails() ? -1 : next(fd);
@@ -119,7 +121,7 @@ int statx(int folder, const char *name, int flags, unsigned int mask, struct sta
 {
     int (*next)(int, const char *, int, unsigned int, struct statx *) =
         (int (*)(int, const char *, int, unsigned int, struct statx *))dlsym(RTLD_NEXT, "statx");
-    return fails() ? -1 : next(folder, name, flags, mask, found);
+    return closed && fails() ? -1 : next(folder, name, flags, mask, found);
 }
 
 int fsync(int fd)

@@ -3,7 +3,8 @@ ghost use Rattle.std.specs.Prelude.{◌≤◌, IfOk, length};
 
 use std::env::{Env, FillError};
 use std::fs::{File, OpenOptions};
-use std::{io, str};
+use std::os::unix::fs::FileTypeExt;
+use std::{fs, io, str};
 
 // The errors of the system that are met here without a call of it.
 const INVALID: i32 = 22;
@@ -43,6 +44,11 @@ pub(crate) fn path_of(name: &[u8]) -> io::Result<&str> {
 
 pub fn open_read(rt: &HostRuntime, name: &[u8]) -> io::Result<File> {
     File::open(rt, path_of(name)?)
+}
+
+pub(crate) fn is_pipe(rt: &HostRuntime, name: &[u8]) -> io::Result<bool> {
+    let found = fs::metadata(rt, path_of(name)?)?;
+    Ok(found.file_type().is_fifo())
 }
 
 // For writing and reading; a file that exists is left as it is.

@@ -70,6 +70,15 @@ fn kind_of(file: &mut File) -> io::Result<Target> {
     }
 }
 
+// Whether a name is that of a pipe. That is asked and not found by opening it: whoever reads it would take the close for
+// its end.
+fn is_pipe(rt: &HostRuntime, name: &[u8]) -> bool {
+    match named::is_pipe(rt, name) {
+        Ok(it) => it,
+        Err(_) => false,
+    }
+}
+
 // A file that exists is opened for writing and left alone, so that one which may not be written stands.
 fn opened_target(rt: &HostRuntime, name: &[u8]) -> io::Result<Target> {
     match named::open_update(rt, name) {
@@ -90,7 +99,7 @@ fn target_of(rt: &HostRuntime, name: &[u8]) -> io::Result<Target> {
     if is_output(name) {
         return Ok(Target::Output);
     }
-    if is_descriptor(name) {
+    if is_descriptor(name) || is_pipe(rt, name) {
         return Ok(Target::Stream);
     }
     opened_target(rt, name)
