@@ -10,8 +10,8 @@ const INVALID: i32 = 22;
 
 const LOST: i32 = 5;
 
-// What came of writing: a file, a stream that got the bytes and nothing else, one that nobody reads, or a fault that was
-// told.
+// What came of writing: a file, a stream that got the bytes and nothing else, one that nobody reads, or a fault that
+// was told.
 #[derive(Drop)]
 pub enum Wrote {
     File,
