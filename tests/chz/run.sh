@@ -179,11 +179,8 @@ ln -s /dev/stdout stdout.link
 "$root/chz" translate m.sheet stdout.link 2>err | cat >out
 stream translate-stdout-link
 mkfifo code.pipe
-# Held open by both ends meanwhile: the program opens it twice, and the reader would take what is between for the end.
-exec 7<>code.pipe
-cat code.pipe >out 7<&- &
+cat code.pipe >out &
 "$root/chz" translate m.sheet code.pipe 2>err >said
-exec 7<&-
 wait $!
 stream translate-pipe
 same translate-pipe-silent said /dev/null
