@@ -6,7 +6,7 @@ use std::io;
 use std::io::ErrorKind;
 
 // What came of reading to the end: how many bytes, or a fault that was told.
-#[derive(Drop)]
+#[derive(Clone, Copy)]
 pub enum Read {
     Bytes(usize),
     Fault,

@@ -12,7 +12,7 @@ const LOST: i32 = 5;
 
 // What came of writing: a file, a stream that got the bytes and nothing else, one that nobody reads, or a fault that
 // was told.
-#[derive(Drop)]
+#[derive(Clone, Copy)]
 pub enum Wrote {
     File,
     Stream,
