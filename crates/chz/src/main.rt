@@ -182,11 +182,11 @@ fn is_launched(rt: &HostRuntime) -> bool {
 // Without --status the program ends with 0 whatever it says, but where nobody reads it.
 fn main(rt: HostRuntime) -> ExitCode {
     if is_launched(&rt) {
-        return ExitCode::from(run_at(&rt, 2, 3));
+        return status::report(run_at(&rt, 2, 3));
     }
     let status = run_at(&rt, 1, 2);
     if status == status::CLOSED {
-        return ExitCode::from(status);
+        return status::report(status);
     }
     ExitCode::SUCCESS
 }

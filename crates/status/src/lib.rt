@@ -4,6 +4,7 @@
 use files::Stream;
 use std::io;
 use std::io::ErrorKind;
+use std::process::ExitCode;
 
 pub const ACCEPTED: u8 = 0;
 
@@ -14,6 +15,11 @@ pub const FAILED: u8 = 2;
 
 // Nobody reads what is written: the program says nothing and ends as one that the system's signal for that ends.
 pub const CLOSED: u8 = 141;
+
+// What the program ends with, by which the launcher learns the status.
+pub fn report(status: u8) -> ExitCode {
+    ExitCode::from(status)
+}
 
 fn way_to_learn_more(rt: &HostRuntime) -> u8 {
     files::say(rt, b"'chz help' shows the commands\n");
