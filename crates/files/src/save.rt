@@ -255,5 +255,5 @@ pub fn write_file(rt: &HostRuntime, name: &[u8], bytes: &[u8], n: usize) -> Wrot
     if n <= bytes.len() {
         return write_bytes(rt, name, &bytes[0..n]);
     }
-    Wrote::Fault
+    faulted(rt, name, &io::Error::from(ErrorKind::InvalidInput))
 }

@@ -112,9 +112,9 @@ pub fn put_number(out: &mut [u8], at: usize, n: u64) -> usize {
     put(out, at, &digits[k..])
 }
 
-fn hex_digit(d: u64) -> u8
-    requires { d < 16 }
-{
+// The digit of the last four bits.
+fn hex_digit(n: u64) -> u8 {
+    let d = n % 16;
     if d < 10 {
         b'0' + d as u8
     } else {
@@ -129,9 +129,8 @@ pub fn put_hex(out: &mut [u8], at: usize, n: u64) -> usize {
     let mut begun = false;
     for i in 0..16 {
         rest = rest.rotate_left(4);
-        let d = rest % 16;
-        begun = begun | (d != 0) | (8 <= i);
-        to = put_if(out, to, hex_digit(d), begun);
+        begun = begun | (rest % 16 != 0) | (8 <= i);
+        to = put_if(out, to, hex_digit(rest), begun);
     }
     to
 }
