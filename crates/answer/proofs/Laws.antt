@@ -1,4 +1,5 @@
 -- Laws of the search for the lowest place. Assumes nothing.
+use Rattle.std.specs.Prelude.{Some, None}
 use mathlib.Core.Path.{◌≡◌, refl}
 use mathlib.Core.Logic.{⊎_elim}
 use mathlib.Core.Bool.{Bool, true, false, ◌||◌}
@@ -7,7 +8,6 @@ use native.Mathlib.Nat.{eq-or-lt_of_le, le_of_suc-le-suc}
 use native.Mathlib.Numerals.{add-one}
 use native.Mathlib.Omega.{arith}
 use Rattle.answer.specs.Lowest.{any_below, first_below}
-use Rattle.answer.specs.declared.Found.TheVariants.{At, Nothing}
 
 pub or-true : (b : Bool) → b || true ≡ true
 or-true true = refl
@@ -25,11 +25,11 @@ module _ (p : ℕ → Bool) where
       ⊎_elim (λ (q : i ≡ n). rw (← q, e) (or-true (any_below p i))) (λ (q : i < n). rw (any-hit i n q e))
       (eq-or-lt_of_le (le_of_suc-le-suc l))
 
-  pub first_more : (n : ℕ) → first_below p n ≡ Nothing → p n ≡ false → first_below p (n + 1) ≡ Nothing
+  pub first_more : (n : ℕ) → first_below p n ≡ None → p n ≡ false → first_below p (n + 1) ≡ None
   unfolding first_below
   first_more n h e = rw (add-one, h, e)
 
-  pub first-hit : (i n : ℕ) → i < n → first_below p i ≡ Nothing → p i ≡ true → first_below p n ≡ At i
+  pub first-hit : (i n : ℕ) → i < n → first_below p i ≡ None → p i ≡ true → first_below p n ≡ Some i
   unfolding first_below
   first-hit i zero l h e = absurd (omega arith)
   first-hit i (suc n) l h e =

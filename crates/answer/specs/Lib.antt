@@ -1,3 +1,4 @@
+pub mod Checked
 pub mod Number
 pub mod Lowest
 pub mod One

@@ -5,7 +5,7 @@
 -- "24 FOREIGN, place the first word that differs, or the shorter length in words" (M-107);
 -- "25 FIELD, place the index of the first number too big for its field, or of the list's end where it stops early, or of the first
 -- number left over" (M-100).
-use Rattle.std.specs.Prelude.{ℕ}
+use Rattle.std.specs.Prelude.{ℕ, Ok, Err}
 use Rattle.answer.specs.declared.Refusal.{Refusal}
 use Rattle.answer.specs.declared.Refusal.TheVariants.{
   Short,
@@ -34,8 +34,7 @@ use Rattle.answer.specs.declared.Refusal.TheVariants.{
   Foreign,
   Field,
 }
-use Rattle.answer.specs.declared.Checked.{Checked}
-use Rattle.answer.specs.declared.Checked.TheVariants.{Accepted, Refused}
+use Rattle.answer.specs.Checked.{Checked}
 
 -- the column "No."
 abbrev pub number : Refusal → ℕ
@@ -95,12 +94,12 @@ place (Field index) = index
 
 -- of a check's answer: 0 and 0 where it accepts
 abbrev pub number_of : Checked → ℕ
-number_of Accepted = 0
-number_of (Refused why) = number why
+number_of (Ok tt) = 0
+number_of (Err why) = number why
 
 abbrev pub place_of : Checked → ℕ
-place_of Accepted = 0
-place_of (Refused why) = place why
+place_of (Ok tt) = 0
+place_of (Err why) = place why
 
 -- A place is a `uint32_t` at the C boundary, and this is the largest. The largest that is ever needed is far below it: the bytes of a
 -- listing, 8,192 lines of at most 14 bytes each.

@@ -11,8 +11,8 @@ use mathlib.Core.Bool.{Bool, true, false}
 use lib.Dec.{leb}
 use borrow.Author.Tests.{le-leb, lt-leb, leb-true, leb-false}
 use Rattle.bits.specs.declared.Cursor.{Cursor}
-use Rattle.bits.specs.Field.{bit_at, num_at, field_at}
-use Rattle.bits.specs.declared.Got.TheVariants.{Field, Short}
+use Rattle.bits.specs.Field.{Got, bit_at, num_at, field_at}
+use Rattle.std.specs.Prelude.{Some, None}
 
 pub bit-lt : (s : List ℕ) (i : ℕ) → bit_at s i < 2
 unfolding bit_at
@@ -99,13 +99,22 @@ num-bytes s i k h =
     let place : i * 8 + k * 8 ≡ (i + k) * 8 = omega arith in
     rw (bits, num-join s (i * 8) (k * 8) 8, place, num-byte s (i + k) h) refl
 
-pub field-here : (s : List ℕ) (at w : ℕ) → at + w ≤ length s * 8 → field_at s at w ≡ Field (num_at s at w) (record { at = at + w })
+pub field-here : (s : List ℕ) (at w : ℕ) → at + w ≤ length s * 8 → field_at s at w ≡ Some (num_at s at w, record { at = at + w })
 unfolding field_at
 field-here s at w h = rw (le-leb (at + w) (length s * 8) h)
 
-pub field-short : (s : List ℕ) (at w : ℕ) → length s * 8 < at + w → field_at s at w ≡ Short
+pub field-short : (s : List ℕ) (at w : ℕ) → length s * 8 < at + w → field_at s at w ≡ None
 unfolding field_at
 field-short s at w h = rw (lt-leb (at + w) (length s * 8) h)
+
+-- the value and the next bit of a field that is there
+abbrev value_of : Got → ℕ
+value_of (Some g) = g.0
+value_of None = 0
+
+abbrev next_of : Got → ℕ
+next_of (Some g) = g.1.at
+next_of None = 0
 
 -- what a field that is there says of its cursor and its value
 pub record Here (s : List ℕ) (at w v next : ℕ) : Type 0 where
@@ -114,17 +123,16 @@ pub record Here (s : List ℕ) (at w v next : ℕ) : Type 0 where
   pub value : v ≡ num_at s at w
   pub below : v < 2 ^ w
 
-pub field-got : (s : List ℕ) (at w v : ℕ) (n : Cursor) → field_at s at w ≡ Field v n → Here s at w v n.at
+pub field-got : (s : List ℕ) (at w v : ℕ) (n : Cursor) → field_at s at w ≡ Some (v, n) → Here s at w v n.at
 field-got s at w v n e = go (leb (at + w) (length s * 8)) refl
   where
     go : (b : Bool) → leb (at + w) (length s * 8) ≡ b → Here s at w v n.at
     go true t =
-        let f : Field v n ≡ Field (num_at s at w) (record { at = at + w }) = sym e ∙ field-here s at w (leb-true _ _ t) in
-        let p : v ≡ num_at s at w = cc in
-        let q : n ≡ record { at = at + w } = cc in
-        let r : n.at ≡ at + w = ap (λ (x : Cursor). x.at) q in
+        let f : ◌≡◌ {A = Got} (Some (v, n)) (Some (num_at s at w, record { at = at + w })) = sym e ∙ field-here s at w (leb-true _ _ t) in
+        let p : v ≡ num_at s at w = ap value_of f in
+        let r : n.at ≡ at + w = ap next_of f in
         record { after = r; inside = omega (arith, leb-true (at + w) (length s * 8) t); value = p; below = rw p (num-lt s at w) }
     go false t =
-        let f : Field v n ≡ Short = sym e ∙ field-short s at w (leb-false _ _ t) in
+        let f : ◌≡◌ {A = Got} (Some (v, n)) None = sym e ∙ field-short s at w (leb-false _ _ t) in
         let z : ◌≡◌ {A = ℕ} 0 1 = cc in
         absurd (omega arith)

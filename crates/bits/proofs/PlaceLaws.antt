@@ -8,10 +8,9 @@ use native.Mathlib.Omega.{arith}
 use Rattle.answer.specs.Number.{place}
 use Rattle.answer.specs.declared.Refusal.{Refusal}
 use Rattle.answer.specs.declared.Refusal.TheVariants as refuse
-use Rattle.bits.specs.Field.{field_at}
+use Rattle.bits.specs.Field.{Got, field_at}
 use Rattle.bits.specs.Read.{Ans, ok, no, bind, guard, or_short, read_field, upto}
-use Rattle.bits.specs.declared.Got.{Got}
-use Rattle.bits.specs.declared.Got.TheVariants as got
+use Rattle.std.specs.Prelude.{Some, None}
 use Rattle.bits.proofs.ReadLaws.{ok-no, no-is, upto_next}
 
 -- a refusal, where it is one, has a place of at most n
@@ -34,8 +33,8 @@ module _ {A : Type 0} (n : ℕ) where
   bind-within (no r) f w h = no_within r (w.fits r refl)
 
 short-within : (n at : ℕ) (g : Got) → at ≤ n → Within n (or_short at g)
-short-within n at (got.Field v c) h = ok-within n v c.at
-short-within n at got.Short h = no_within n (refuse.Short at) h
+short-within n at (Some g) h = ok-within n g.0 g.1.at
+short-within n at None h = no_within n (refuse.Short at) h
 
 pub field-within : (n : ℕ) (s : List ℕ) (w at : ℕ) → at ≤ n → Within n (read_field s w at)
 field-within n s w at h = short-within n at (field_at s at w) h

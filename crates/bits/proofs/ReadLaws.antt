@@ -10,11 +10,10 @@ use native.Mathlib.Numerals.{add-one}
 use lib.ListN.{length, length-append}
 use Rattle.answer.specs.declared.Refusal.{Refusal}
 use Rattle.answer.specs.declared.Refusal.TheVariants as refuse
-use Rattle.bits.specs.Field.{field_at, num_at}
+use Rattle.bits.specs.Field.{Got, field_at, num_at}
 use Rattle.bits.specs.Read.{Ans, ok, no, bind, guard, or_short, read_field, upto}
 use Rattle.bits.specs.declared.Cursor.{Cursor}
-use Rattle.bits.specs.declared.Got.{Got}
-use Rattle.bits.specs.declared.Got.TheVariants as got
+use Rattle.std.specs.Prelude.{Some, None}
 use Rattle.bits.proofs.FieldLaws.{Here, field-got, field-here, field-short}
 
 pub ok-next : {A : Type 0} {a b : A} {m n : ℕ} → ok a m ≡ ok b n → m ≡ n
@@ -39,12 +38,12 @@ guard_ok true r x h = (refl, h)
 guard_ok false r x h = ok-no (sym h)
 
 -- a field that was read
-short_ok : (at : ℕ) (g : Got) {v next : ℕ} → or_short at g ≡ ok v next → (c : Cursor) × (g ≡ got.Field v c) × (c.at ≡ next)
-short_ok at (got.Field u c) {v} {next} h =
-    let p : u ≡ v = cc in
-    let q : c.at ≡ next = cc in
-    (c, ap (λ (x : ℕ). got.Field x c) p, q)
-short_ok at got.Short h = ok-no (sym h)
+short_ok : (at : ℕ) (g : Got) {v next : ℕ} → or_short at g ≡ ok v next → (c : Cursor) × (g ≡ Some (v, c)) × (c.at ≡ next)
+short_ok at (Some g) {v} {next} h =
+    let p : g.0 ≡ v = cc in
+    let q : g.1.at ≡ next = cc in
+    (g.1, ap (λ (x : ℕ). Some (x, g.1)) p, q)
+short_ok at None h = ok-no (sym h)
 
 pub field-read : (s : List ℕ) (w at : ℕ) {v next : ℕ} → read_field s w at ≡ ok v next → Here s at w v next
 field-read s w at {v} {next} h =

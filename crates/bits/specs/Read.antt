@@ -1,10 +1,8 @@
 -- Reading: the value read with the next bit, or the refusal met first. One answer type for all that is read from a sheet.
-use Rattle.std.specs.Prelude.{ℕ, zero, suc, List, [], ◌∷◌, ◌++◌, Bool, true, false}
+use Rattle.std.specs.Prelude.{ℕ, zero, suc, List, [], ◌∷◌, ◌++◌, Bool, true, false, Some, None}
 use Rattle.answer.specs.declared.Refusal.{Refusal}
 use Rattle.answer.specs.declared.Refusal.TheVariants as refuse
-use Rattle.bits.specs.declared.Got.{Got}
-use Rattle.bits.specs.declared.Got.TheVariants as got
-use Rattle.bits.specs.Field.{field_at}
+use Rattle.bits.specs.Field.{Got, field_at}
 
 pub data Ans (A : Type 0) : Type 0 where
   ok : A → ℕ → Ans A
@@ -21,8 +19,8 @@ guard true r x = x
 guard false r x = no r
 
 abbrev pub or_short : ℕ → Got → Ans ℕ
-or_short at (got.Field v c) = ok v c.at
-or_short at got.Short = no (refuse.Short at)
+or_short at (Some g) = ok g.0 g.1.at
+or_short at None = no (refuse.Short at)
 
 -- a field of w bits; 1 SHORT where it "isn't wholly there", at "its first bit"
 abbrev pub read_field : List ℕ → ℕ → ℕ → Ans ℕ

@@ -6,16 +6,9 @@ ghost use Rattle.bits.specs.Field.{reach, num_at, field_at};
 ghost use Rattle.bits.specs.Word.{get_bit, put_bit};
 
 // The next bit to be read.
-#[derive(Clone, Copy)]
+#[derive(Clone, Copy, Debug, PartialEq, Eq)]
 pub struct Cursor {
     pub at: usize,
-}
-
-// A field's value with the cursor after it, or no room for it.
-#[derive(Clone, Copy)]
-pub enum Got {
-    Field(u32, Cursor),
-    Short,
 }
 
 // The bytes before `stop` that the field at `at` is in. As many of the last ones are taken as a field of this width fills at least,
@@ -50,17 +43,17 @@ pub fn number(s: &[u8], at: usize, width: usize) -> u32
     ((all >> spare) % (one << width)) as u32
 }
 
-// The field of `width` bits from the cursor on.
-pub fn field(s: &[u8], c: Cursor, width: usize) -> Got
+// The field of `width` bits from the cursor on with the cursor after it, where it is there.
+pub fn field(s: &[u8], c: Cursor, width: usize) -> Option<(u32, Cursor)>
     requires { (c.at < reach) × (1 ≤ width) × (width ≤ 24) }
     ensures { result ≡ field_at s.now c.at width }
 {
     let at = c.at;
     let end = at + width;
     if s.len() < (end + 7) / 8 {
-        return Got::Short;
+        return None;
     }
-    Got::Field(number(s, at, width), Cursor { at: end })
+    Some((number(s, at, width), Cursor { at: end }))
 }
 
 // Whether bit i of the word is 1.

@@ -1,4 +1,5 @@
 -- Laws of the check of code. Assumes nothing.
+use Rattle.std.specs.Prelude.{Some, None}
 use mathlib.Core.Path.{◌≡◌, refl, sym, ◌∙◌}
 use mathlib.Core.Bool.{Bool, true, false, not, ◌&&◌, ◌||◌, cond}
 use mathlib.Core.List.{List, [], ◌∷◌, map}
@@ -9,8 +10,7 @@ use borrow.Author.Tests.{eq-eqb, ne_eqb, eqb-true, ltb-false, leb-false, ltb-tru
 use lib.Dec.{eqb, ltb}
 use lib.ListN.{length, get_or, drop, drop_of_length-le, get_or-map}
 use lib.Seq.{drop-cons}
-use Rattle.answer.specs.declared.Found.{Found}
-use Rattle.answer.specs.declared.Found.TheVariants.{At, Nothing}
+use Rattle.std.specs.declared.option.Option.{Option}
 use Rattle.words.specs.Word.{Word, END, LDS, LDI, NOT, ANDP, ORP, PAR, ANDT, R, S, RA, SA, JMPC, JMP, TRES, code_no, operand, word_no, known, decode}
 use Rattle.faults.specs.Check.{opens, strays, faulty, unknown, here_or, first_fault, depth_at, lands_open, first_landing}
 use Rattle.words.proofs.WordLaws.{by_first, known-end, decode-at}
@@ -64,11 +64,11 @@ module _ (n d : ℕ) (ws : List ℕ) (pc : ℕ) (here : pc < length ws) where
   unfolding first_fault
   fault-on e = rw (drop-cons ws pc 0 here, e)
 
-  pub fault-here : (unknown (get_or ws pc 0) || faulty n pc d (decode (get_or ws pc 0))) ≡ true → first_fault n pc d (drop pc ws) ≡ At pc
+  pub fault-here : (unknown (get_or ws pc 0) || faulty n pc d (decode (get_or ws pc 0))) ≡ true → first_fault n pc d (drop pc ws) ≡ Some pc
   unfolding first_fault
   fault-here e = rw (drop-cons ws pc 0 here, e)
 
-pub fault-end : (n d : ℕ) (ws : List ℕ) (pc : ℕ) → length ws ≤ pc → first_fault n pc d (drop pc ws) ≡ Nothing
+pub fault-end : (n d : ℕ) (ws : List ℕ) (pc : ℕ) → length ws ≤ pc → first_fault n pc d (drop pc ws) ≡ None
 unfolding first_fault
 fault-end n d ws pc h = rw (drop_of_length-le ws h)
 
@@ -78,11 +78,11 @@ module _ (code is : List Word) (pc : ℕ) (here : pc < length is) where
   unfolding first_landing
   landing-on e = rw (drop-cons is pc END here, e)
 
-  pub landing-here : lands_open code (get_or is pc END) ≡ true → first_landing code pc (drop pc is) ≡ At pc
+  pub landing-here : lands_open code (get_or is pc END) ≡ true → first_landing code pc (drop pc is) ≡ Some pc
   unfolding first_landing
   landing-here e = rw (drop-cons is pc END here, e)
 
-pub landing-end : (code is : List Word) (pc : ℕ) → length is ≤ pc → first_landing code pc (drop pc is) ≡ Nothing
+pub landing-end : (code is : List Word) (pc : ℕ) → length is ≤ pc → first_landing code pc (drop pc is) ≡ None
 unfolding first_landing
 landing-end code is pc h = rw (drop_of_length-le is h)
 
@@ -123,12 +123,12 @@ opens-most (JMPC a) d = omega arith
 opens-most (JMP a) d = omega arith
 opens-most TRES d = omega arith
 
-here-none : (b : Bool) (pc : ℕ) (later : Found) → here_or b pc later ≡ Nothing → (b ≡ false) × (later ≡ Nothing)
+here-none : (b : Bool) (pc : ℕ) (later : Option ℕ) → here_or b pc later ≡ None → (b ≡ false) × (later ≡ None)
 here-none true pc later h = absurd (let z : ◌≡◌ {A = ℕ} 0 1 = cc in omega arith)
 here-none false pc later h = (refl, h)
 
 -- where no word is found at fault, each is known and without fault
-pub sound-from : (n pc d : ℕ) (ws : List ℕ) → first_fault n pc d ws ≡ Nothing → (k : ℕ) → k < length ws
+pub sound-from : (n pc d : ℕ) (ws : List ℕ) → first_fault n pc d ws ≡ None → (k : ℕ) → k < length ws
     → (unknown (get_or ws k 0) ≡ false) × (faulty n (pc + k) (depth_at d (map decode ws) k) (decode (get_or ws k 0)) ≡ false)
 unfolding first_fault depth_at
 sound-from n pc d [] h k l = absurd (omega arith)
@@ -137,7 +137,7 @@ sound-from n pc d (w ∷ ws) h zero l =
 sound-from n pc d (w ∷ ws) h (suc k) l =
     rw (add-suc pc k, ← suc-add pc k) (sound-from n (suc pc) (opens (decode w) d) ws (here-none (unknown w || faulty n pc d (decode w)) pc _ h).1 k (omega arith))
 
-pub lands-from : (code : List Word) (pc : ℕ) (is : List Word) → first_landing code pc is ≡ Nothing → (k : ℕ) → k < length is
+pub lands-from : (code : List Word) (pc : ℕ) (is : List Word) → first_landing code pc is ≡ None → (k : ℕ) → k < length is
     → lands_open code (get_or is k END) ≡ false
 unfolding first_landing
 lands-from code pc [] h k l = absurd (omega arith)
@@ -147,7 +147,7 @@ lands-from code pc (i ∷ is) h (suc k) l = lands-from code (suc pc) is (here-no
 -- and the other way round
 pub sound-to : (n pc d : ℕ) (ws : List ℕ)
     → ((k : ℕ) → k < length ws → (unknown (get_or ws k 0) ≡ false) × (faulty n (pc + k) (depth_at d (map decode ws) k) (decode (get_or ws k 0)) ≡ false))
-    → first_fault n pc d ws ≡ Nothing
+    → first_fault n pc d ws ≡ None
 unfolding first_fault depth_at
 sound-to n pc d [] h = refl
 sound-to n pc d (w ∷ ws) h =
@@ -156,7 +156,7 @@ sound-to n pc d (w ∷ ws) h =
     (sound-to n (suc pc) (opens (decode w) d) ws λ k l. ((h (suc k) (omega arith)).0, rw (suc-add pc k, ← add-suc pc k) (h (suc k) (omega arith)).1))
 
 pub lands-to : (code : List Word) (pc : ℕ) (is : List Word) → ((k : ℕ) → k < length is → lands_open code (get_or is k END) ≡ false)
-    → first_landing code pc is ≡ Nothing
+    → first_landing code pc is ≡ None
 unfolding first_landing
 lands-to code pc [] h = refl
 lands-to code pc (i ∷ is) h = rw (h 0 (omega arith)) (lands-to code (suc pc) is λ k l. h (suc k) (omega arith))

@@ -1,4 +1,5 @@
 -- The search for the first fault, turn by turn, with the targets of jumps marked on the way. Assumes nothing.
+use Rattle.std.specs.Prelude.{Some, None}
 use mathlib.Core.Path.{◌≡◌, refl, sym, ap, ◌∙◌}
 use mathlib.Core.Bool.{Bool, true, false, ◌&&◌, ◌||◌}
 use mathlib.Core.List.{List, map}
@@ -9,7 +10,6 @@ use borrow.Author.Count.{below_more}
 use borrow.Author.Tests.{eqb-true}
 use lib.Dec.{eqb, ltb}
 use lib.ListN.{length, get_or, drop, length-map, length-replicate, replicate}
-use Rattle.answer.specs.declared.Found.TheVariants.{At, Nothing}
 use Rattle.faults.specs.declared.After.{After}
 use Rattle.faults.specs.declared.After.TheVariants.{Fault, Jump, Open}
 use Rattle.words.specs.Word.{Word, known, decode}
@@ -158,14 +158,14 @@ module _ (ws : List ℕ) (n : ℕ) (targets : List ℕ) (landing : Bool) (at d :
   pub looking-target : here ≡ Jump → get_or ws at 0 % 16777216 < n
   looking-target e = let j = was-jump _ _ _ e in (leap n at d (get_or ws at 0) j.0 j.1).1
 
-  pub looking-hit : at < n → here ≡ Fault → first_fault n 0 0 ws ≡ At at
+  pub looking-hit : at < n → here ≡ Fault → first_fault n 0 0 ws ≡ Some at
   looking-hit h e = sym l.same ∙ fault-here n d ws at (omega arith) (was-fault _ _ _ e)
 
-  pub looking-end : n ≤ at → first_fault n 0 0 ws ≡ Nothing
+  pub looking-end : n ≤ at → first_fault n 0 0 ws ≡ None
   looking-end h = sym l.same ∙ fault-end n d ws at (omega arith)
 
   -- without a fault each target was met, and none of them inside a parenthesis
-  pub looking-sound : n ≤ at → landing ≡ false → first_landing (map decode ws) 0 (map decode ws) ≡ Nothing
+  pub looking-sound : n ≤ at → landing ≡ false → first_landing (map decode ws) 0 (map decode ws) ≡ None
   unfolding decode
   looking-sound h f = lands-to is 0 is λ j b. ap (lands_open is) (read_at ws j) ∙ lands-code is (op j) (arg j) ∙ go j (omega (arith, length-map ws decode)) (jumps (op j)) refl
     where

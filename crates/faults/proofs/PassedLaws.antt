@@ -1,4 +1,5 @@
 -- What the check answers, test by test, and what code that passed it is like. Assumes nothing.
+use Rattle.std.specs.Prelude.{Ok, Err, Some, None}
 use mathlib.Core.Path.{◌≡◌, refl}
 use mathlib.Core.Bool.{Bool, true, false, ◌||◌, cond}
 use mathlib.Core.List.{List, map}
@@ -8,10 +9,8 @@ use native.Mathlib.Nat.{zero-add}
 use borrow.Author.Tests.{eqb-false, ne_eqb, ltb-false, le-ltb}
 use lib.Dec.{eqb, ltb}
 use lib.ListN.{length, get_or, length-map}
-use Rattle.answer.specs.declared.Checked.TheVariants.{Accepted, Refused}
 use Rattle.answer.specs.declared.Refusal.TheVariants as refuse
-use Rattle.answer.specs.declared.Found.{Found}
-use Rattle.answer.specs.declared.Found.TheVariants.{At, Nothing}
+use Rattle.std.specs.declared.option.Option.{Option}
 use Rattle.answer.specs.Lowest.{refuse_at}
 use Rattle.words.specs.Word.{JMPC, JMP, decode, words}
 use Rattle.faults.specs.Check.{end_fault, strays, faulty, unknown, first_fault, depth_at, lands_open, first_landing, check_code}
@@ -20,21 +19,21 @@ use Rattle.faults.proofs.CheckLaws.{or_no, sound-from, sound-to, lands-from, lan
 
 -- 15, then 16, then 17
 module _ (s : List ℕ) where
-  pub check-end : end_fault s ≡ true → check_code s ≡ Refused refuse.CodeEnd
+  pub check-end : end_fault s ≡ true → check_code s ≡ Err refuse.CodeEnd
   unfolding check_code
   check-end e = rw e
 
-  pub check-word : end_fault s ≡ false → {w : ℕ} → first_fault (length (words s)) 0 0 (words s) ≡ At w → check_code s ≡ Refused (refuse.Word w)
+  pub check-word : end_fault s ≡ false → {w : ℕ} → first_fault (length (words s)) 0 0 (words s) ≡ Some w → check_code s ≡ Err (refuse.Word w)
   unfolding check_code
   check-word e f = rw (e, f)
 
-  pub check-landing : end_fault s ≡ false → first_fault (length (words s)) 0 0 (words s) ≡ Nothing
-      → check_code s ≡ refuse_at refuse.Landing (first_landing (map decode (words s)) 0 (map decode (words s))) Accepted
+  pub check-landing : end_fault s ≡ false → first_fault (length (words s)) 0 0 (words s) ≡ None
+      → check_code s ≡ refuse_at refuse.Landing (first_landing (map decode (words s)) 0 (map decode (words s))) (Ok tt)
   unfolding check_code
   check-landing e f = rw (e, f)
 
-  pub check-passed : end_fault s ≡ false → first_fault (length (words s)) 0 0 (words s) ≡ Nothing
-      → first_landing (map decode (words s)) 0 (map decode (words s)) ≡ Nothing → check_code s ≡ Accepted
+  pub check-passed : end_fault s ≡ false → first_fault (length (words s)) 0 0 (words s) ≡ None
+      → first_landing (map decode (words s)) 0 (map decode (words s)) ≡ None → check_code s ≡ (Ok tt)
   unfolding check_code
   check-passed e f g = rw (e, f, g)
 
@@ -63,21 +62,21 @@ end-good s h =
 -- what the three numbers rule out
 pub record Parts (s : List ℕ) : Type 0 where
   pub ended : end_fault s ≡ false
-  pub sound : first_fault (length (words s)) 0 0 (words s) ≡ Nothing
-  pub lands : first_landing (map decode (words s)) 0 (map decode (words s)) ≡ Nothing
+  pub sound : first_fault (length (words s)) 0 0 (words s) ≡ None
+  pub lands : first_landing (map decode (words s)) 0 (map decode (words s)) ≡ None
 
-pub parts : (s : List ℕ) → check_code s ≡ Accepted → Parts s
+pub parts : (s : List ℕ) → check_code s ≡ (Ok tt) → Parts s
 unfolding check_code
 parts s h =
     go (end_fault s) refl (first_fault (length (words s)) 0 0 (words s)) refl (first_landing (map decode (words s)) 0 (map decode (words s))) refl h
   where
-    go : (x : Bool) → end_fault s ≡ x → (y : Found) → first_fault (length (words s)) 0 0 (words s) ≡ y
-        → (z : Found) → first_landing (map decode (words s)) 0 (map decode (words s)) ≡ z
-        → cond x (Refused refuse.CodeEnd) (refuse_at refuse.Word y (refuse_at refuse.Landing z Accepted)) ≡ Accepted → Parts s
+    go : (x : Bool) → end_fault s ≡ x → (y : Option ℕ) → first_fault (length (words s)) 0 0 (words s) ≡ y
+        → (z : Option ℕ) → first_landing (map decode (words s)) 0 (map decode (words s)) ≡ z
+        → cond x (Err refuse.CodeEnd) (refuse_at refuse.Word y (refuse_at refuse.Landing z (Ok tt))) ≡ (Ok tt) → Parts s
     go true p y q z r e = absurd (let o : ◌≡◌ {A = ℕ} 0 1 = cc in omega arith)
-    go false p (At w) q z r e = absurd (let o : ◌≡◌ {A = ℕ} 0 1 = cc in omega arith)
-    go false p Nothing q (At w) r e = absurd (let o : ◌≡◌ {A = ℕ} 0 1 = cc in omega arith)
-    go false p Nothing q Nothing r e = record { ended = p; sound = q; lands = r }
+    go false p (Some w) q z r e = absurd (let o : ◌≡◌ {A = ℕ} 0 1 = cc in omega arith)
+    go false p None q (Some w) r e = absurd (let o : ◌≡◌ {A = ℕ} 0 1 = cc in omega arith)
+    go false p None q None r e = record { ended = p; sound = q; lands = r }
 
 -- code that passed: its length, and each of its words
 pub record Passed (s : List ℕ) : Type 0 where
@@ -86,7 +85,7 @@ pub record Passed (s : List ℕ) : Type 0 where
   pub sound : (k : ℕ) → k < length (words s) → faulty (length (words s)) k (depth_at 0 (map decode (words s)) k) (decode (get_or (words s) k 0)) ≡ false
   pub lands : (k : ℕ) → k < length (words s) → lands_open (map decode (words s)) (decode (get_or (words s) k 0)) ≡ false
 
-pub accepted : (s : List ℕ) → check_code s ≡ Accepted → Passed s
+pub accepted : (s : List ℕ) → check_code s ≡ (Ok tt) → Passed s
 accepted s h =
     let p = parts s h in
     record {
@@ -107,7 +106,7 @@ end-from s e =
     )
 
 -- and so the check accepts exactly what these rules admit
-pub accepts : (s : List ℕ) → Passed s → check_code s ≡ Accepted
+pub accepts : (s : List ℕ) → Passed s → check_code s ≡ (Ok tt)
 accepts s p =
     check-passed s (end-from s p.ended)
     (sound-to (length (words s)) 0 0 (words s) λ k l. (p.known k l, rw (zero-add k) (p.sound k l)))

@@ -1,9 +1,7 @@
 -- The check of code: "Code is judged 15, 16, 17 in that order, lowest place first."
-use Rattle.std.specs.Prelude.{◌≡◌, Bool, true, false, not, ◌&&◌, ◌||◌, cond, List, [], ◌∷◌, map, ℕ, zero, suc, pred, ◌-◌, ◌%◌, eqb, leb, ltb, length, get_or}
-use Rattle.answer.specs.declared.Checked.{Checked}
-use Rattle.answer.specs.declared.Checked.TheVariants.{Accepted, Refused}
-use Rattle.answer.specs.declared.Found.{Found}
-use Rattle.answer.specs.declared.Found.TheVariants.{At, Nothing}
+use Rattle.std.specs.Prelude.{◌≡◌, Bool, true, false, not, ◌&&◌, ◌||◌, cond, List, [], ◌∷◌, map, ℕ, zero, suc, pred, ◌-◌, ◌%◌, eqb, leb, ltb, length, get_or, Ok, Err, Some, None}
+use Rattle.answer.specs.Checked.{Checked}
+use Rattle.std.specs.declared.option.Option.{Option}
 use Rattle.answer.specs.declared.Refusal.TheVariants as refuse
 use Rattle.answer.specs.Lowest.{refuse_at}
 use Rattle.words.specs.Word.{Word, END, LDS, LDI, NOT, ANDP, ORP, PAR, ANDT, R, S, RA, SA, JMPC, JMP, TRES, word_no, decode, words}
@@ -58,13 +56,13 @@ unfoldable pub unknown : ℕ → Bool
 unknown w = not (eqb (word_no (decode w)) w)
 
 -- this place, or else what was found later
-abbrev pub here_or : Bool → ℕ → Found → Found
-here_or true pc later = At pc
+abbrev pub here_or : Bool → ℕ → Option ℕ → Option ℕ
+here_or true pc later = Some pc
 here_or false pc later = later
 
 -- 16 WORD: the first word at fault, from word pc of n on, with d parentheses open before it
-unfoldable pub first_fault : ℕ → ℕ → ℕ → List ℕ → Found
-first_fault n pc d [] = Nothing
+unfoldable pub first_fault : ℕ → ℕ → ℕ → List ℕ → Option ℕ
+first_fault n pc d [] = None
 first_fault n pc d (w ∷ ws) =
     let later = first_fault n (suc pc) (opens (decode w) d) ws in
     here_or (unknown w || faulty n pc d (decode w)) pc later
@@ -94,8 +92,8 @@ lands_open code (JMP word) = ltb 0 (depth_at 0 code word)
 lands_open code TRES = false
 
 -- 17 LANDING: the first such jump, from word pc on
-unfoldable pub first_landing : List Word → ℕ → List Word → Found
-first_landing code pc [] = Nothing
+unfoldable pub first_landing : List Word → ℕ → List Word → Option ℕ
+first_landing code pc [] = None
 first_landing code pc (i ∷ is) =
     let later = first_landing code (suc pc) is in
     here_or (lands_open code i) pc later
@@ -104,9 +102,9 @@ unfoldable pub check_code : List ℕ → Checked
 check_code s =
     let ws = words s in
     let is = map decode ws in
-    let landing = refuse_at refuse.Landing (first_landing is 0 is) Accepted in
+    let landing = refuse_at refuse.Landing (first_landing is 0 is) (Ok tt) in
     let word = refuse_at refuse.Word (first_fault (length ws) 0 0 ws) landing in
-    cond (end_fault s) (Refused refuse.CodeEnd) word
+    cond (end_fault s) (Err refuse.CodeEnd) word
 
 -- THE CONTRACT of `check_code`: the verdict, with its number and place, on any byte string
 abbrev pub ChecksCode : List ℕ → Checked → Type 0

@@ -1,6 +1,5 @@
 -- Code refused for each reason, by computation. Words are written in hex, as the paper writes them.
-use Rattle.std.specs.Prelude.{◌≡◌, refl, List, [], ◌∷◌, ◌++◌, ℕ, replicate}
-use Rattle.answer.specs.declared.Checked.TheVariants.{Refused}
+use Rattle.std.specs.Prelude.{◌≡◌, refl, List, [], ◌∷◌, ◌++◌, ℕ, replicate, Err}
 use Rattle.answer.specs.declared.Refusal.TheVariants as refuse
 use Rattle.answer.specs.Number.{number_of, place_of}
 use Rattle.words.specs.Worked.{bytes}
@@ -18,8 +17,8 @@ inside = 0x02000000 ∷ 0x0D000003 ∷ 0x04000000 ∷ 0x06000000 ∷ 0x00000000 
 -- 15 CODE-END: empty; not a multiple of 4; the code byte of the last word is not 0
 pub ends :
     (answer [] ≡ 15 ∷ 0 ∷ [])
-    × (check_code (0 ∷ []) ≡ Refused refuse.CodeEnd)
-    × (check_code (14 ∷ 0 ∷ 0 ∷ 0 ∷ 0 ∷ []) ≡ Refused refuse.CodeEnd)
+    × (check_code (0 ∷ []) ≡ Err refuse.CodeEnd)
+    × (check_code (14 ∷ 0 ∷ 0 ∷ 0 ∷ 0 ∷ []) ≡ Err refuse.CodeEnd)
     × (answer (0x0E000000 ∷ []) ≡ 15 ∷ 0 ∷ [])
     × (answer (0x0F000000 ∷ 0x0E000000 ∷ []) ≡ 15 ∷ 0 ∷ [])
 unfolding bytes bytes_of answer words decode known word_no code_no operand end_fault opens faulty unknown first_fault depth_at lands_open first_landing

@@ -2,8 +2,6 @@
 #![tactic(auto)]
 
 ghost use Rattle.std.specs.Prelude.{◌≡◌, true, false, ◌&&◌, ◌||◌, map, ℕ, pred, ◌+◌, ◌*◌, ◌≤◌, ◌<◌, length, replicate, eqb, ltb};
-ghost use Rattle.answer.specs.declared.Checked.TheVariants.{Accepted};
-ghost use Rattle.answer.specs.declared.Found.TheVariants.{Nothing};
 ghost use Rattle.answer.specs.declared.Refusal.TheVariants.{Landing};
 ghost use Rattle.answer.specs.Lowest.{refuse_at};
 ghost use Rattle.bits.specs.Word.{get_bit, put_bit};
@@ -11,7 +9,7 @@ ghost use Rattle.words.specs.Word.{known, decode, words, word_at};
 ghost use Rattle.faults.specs.Check.{end_fault, opens, faulty, unknown, first_fault, depth_at, lands_open, first_landing, ChecksCode};
 ghost use Rattle.faults.specs.inside.Marks.{marked, noted, jumps, stepped, PassTells, AllMarked};
 
-use answer::{Checked, Found, Refusal};
+use answer::{Checked, Refusal};
 
 // What follows a word: it is at fault; or it is a jump, and as many parentheses are open as before it; or so many are open.
 #[derive(Clone, Copy)]
@@ -222,7 +220,7 @@ fn lands_open(code: &[u8], marks: &[u32; 256], at: usize) -> bool
 }
 
 // 17: the first of n words that is such a jump, where the words are marked.
-fn first_landing(code: &[u8], n: usize, marks: &[u32; 256]) -> Found
+fn first_landing(code: &[u8], n: usize, marks: &[u32; 256]) -> Option<usize>
     requires n_value { n ≡ length (words code.now) }
     requires all_marked { AllMarked code.now marks.now }
     ensures { result ≡ first_landing (map decode (words code.now)) 0 (map decode (words code.now)) }
@@ -230,15 +228,15 @@ fn first_landing(code: &[u8], n: usize, marks: &[u32; 256]) -> Found
     let mut at = 0;
     while at < n {
         if lands_open(code, marks, at) {
-            return Found::At(at);
+            return Some(at);
         }
         at += 1;
     }
-    Found::Nothing
+    None
 }
 
 // 17, in two passes more.
-fn lowest_landing(code: &[u8], n: usize) -> Found
+fn lowest_landing(code: &[u8], n: usize) -> Option<usize>
     requires n_value { (n ≡ length (words code.now)) × (length code.now ≤ 32768) }
     requires code_value { first_fault (length (words code.now)) 0 0 (words code.now) ≡ Nothing }
     ensures { result ≡ first_landing (map decode (words code.now)) 0 (map decode (words code.now)) }
@@ -249,12 +247,12 @@ fn lowest_landing(code: &[u8], n: usize) -> Found
 }
 
 // The answer by what was found for 17.
-fn landed(landing: Found) -> Checked
+fn landed(landing: Option<usize>) -> Checked
     ensures { result ≡ refuse_at Landing landing Accepted }
 {
     match landing {
-        Found::At(word) => Checked::Refused(Refusal::Landing(word)),
-        Found::Nothing => Checked::Accepted,
+        Some(word) => Err(Refusal::Landing(word)),
+        None => Ok(()),
     }
 }
 
@@ -263,13 +261,13 @@ pub fn check_code(code: &[u8]) -> Checked
     ensures { ChecksCode code.now result }
 {
     if end_fault(code) {
-        return Checked::Refused(Refusal::CodeEnd);
+        return Err(Refusal::CodeEnd);
     }
     let n = code.len() / 4;
     let pass = one_pass(code, n);
     match pass {
-        Pass::Fault(word) => Checked::Refused(Refusal::Word(word)),
+        Pass::Fault(word) => Err(Refusal::Word(word)),
         Pass::Landing => landed(lowest_landing(code, n)),
-        Pass::Sound => Checked::Accepted,
+        Pass::Sound => Ok(()),
     }
 }

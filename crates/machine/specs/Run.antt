@@ -1,7 +1,6 @@
 -- The runner: "The runner refuses faulty code, else brings the clock forward as above and starts at word 0."
-use Rattle.std.specs.Prelude.{◌≡◌, List, map, ℕ}
-use Rattle.answer.specs.declared.Checked.{Checked}
-use Rattle.answer.specs.declared.Checked.TheVariants.{Accepted, Refused}
+use Rattle.std.specs.Prelude.{◌≡◌, List, map, ℕ, Ok, Err}
+use Rattle.answer.specs.Checked.{Checked}
 use Rattle.machine.specs.declared.Record.{Record}
 use Rattle.machine.specs.declared.Ran.{Ran}
 use Rattle.words.specs.Word.{decode, words}
@@ -23,8 +22,8 @@ abbrev pub ran_with : Checked → Record → Ran
 ran_with verdict r = record { verdict = verdict; «record» = r }
 
 abbrev pub ran_by : Checked → List ℕ → Record → ℕ → ℕ → Ran
-ran_by Accepted s r x elapsed = ran_with Accepted (record_of (run_scan (map decode (words s)) (mach_of r) x elapsed).mach)
-ran_by (Refused why) s r x elapsed = ran_with (Refused why) r
+ran_by (Ok tt) s r x elapsed = ran_with (Ok tt) (record_of (run_scan (map decode (words s)) (mach_of r) x elapsed).mach)
+ran_by (Err why) s r x elapsed = ran_with (Err why) r
 
 -- "A refused scan returns the record it was given"; x is the input word
 unfoldable pub run_code : List ℕ → Record → ℕ → ℕ → Ran

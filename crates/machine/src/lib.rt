@@ -3,7 +3,6 @@
 
 ghost use Rattle.std.specs.Prelude.{◌≡◌, false, List, [], map, ◌+◌, ◌*◌, ◌/◌, ◌%◌, ◌<◌};
 ghost use mir.Val.{bool_byte};
-ghost use Rattle.answer.specs.declared.Checked.TheVariants.{Accepted};
 ghost use Rattle.bits.specs.Word.{put_bit};
 ghost use Rattle.words.specs.Word.{known, decode, words};
 ghost use Rattle.faults.specs.Check.{check_code};
@@ -220,12 +219,12 @@ pub fn run(code: &[u8], given: Record, inputs: u16, elapsed: u32) -> Ran
 {
     let verdict = faults::check_code(code);
     match verdict {
-        Checked::Accepted => {
+        Ok(()) => {
             let forward = clock::bring_forward(given.clock, elapsed);
             let begun = record_with(given.flags, given.outputs, forward);
             let after = execute(code, inputs, begun);
-            ran_with(Checked::Accepted, after)
+            ran_with(Ok(()), after)
         }
-        Checked::Refused(why) => ran_with(Checked::Refused(why), given),
+        Err(why) => ran_with(Err(why), given),
     }
 }

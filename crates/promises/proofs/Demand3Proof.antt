@@ -1,11 +1,11 @@
 -- With room the translator accepts, and what it leaves is the code. Assumes nothing.
+use Rattle.std.specs.Prelude.{Ok}
 use mathlib.Core.Path.{◌≡◌, refl, ap, ◌∙◌}
 use mathlib.Core.List.{List}
 use Prim.Native.Nat.{ℕ, ◌*◌, ◌≤◌}
 use native.Mathlib.Omega.{arith}
 use borrow.Author.Tests.{le-leb}
 use lib.ListN.{length}
-use Rattle.answer.specs.declared.Checked.TheVariants.{Accepted}
 use Rattle.bits.specs.Read.{ok}
 use Rattle.reader.specs.Sheet.{Sheet}
 use Rattle.reader.specs.Reading.{read_sheet}
@@ -17,7 +17,7 @@ use Rattle.promises.specs.Length.{words_of}
 use Rattle.promises.specs.Demand3.{code_in}
 use Rattle.promises.proofs.LengthProof.{bytes-are}
 
-module _ (a : Sheet) (rules : Rules a) (s : List ℕ) (end : ℕ) (read : read_sheet s ≡ ok a end) (acc : check_sheet s ≡ Accepted) where
+module _ (a : Sheet) (rules : Rules a) (s : List ℕ) (end : ℕ) (read : read_sheet s ≡ ok a end) (acc : check_sheet s ≡ (Ok tt)) where
   -- with room the translator accepts, and what it leaves in the buffer is the code
   pub with-room : (buffer : List ℕ) → 4 * words_of a ≤ length buffer → translate_into s buffer ≡ written_with buffer (code_of a)
   with-room buffer h =

@@ -1,10 +1,10 @@
 -- Inputs k and above are ignored, for a sheet that keeps the rules.
+use Rattle.std.specs.Prelude.{Ok}
 use mathlib.Core.Path.{◌≡◌, refl, sym, ap, ◌∙◌}
 use mathlib.Core.Bool.{Bool, true, false, not, ◌&&◌, cond}
 use mathlib.Core.List.{List, [], ◌∷◌}
 use Prim.Native.Nat.{ℕ, zero, suc, ◌-◌, ◌<◌}
 use lib.Dec.{leb}
-use Rattle.answer.specs.declared.Checked.TheVariants.{Accepted}
 use Rattle.bits.specs.Read.{ok}
 use Rattle.bits.specs.Word.{get_bit}
 use Rattle.clock.specs.Onward.{onward}
@@ -111,11 +111,11 @@ module _ (a : Sheet) (rules : Rules a) (x y : ℕ) (agree : Agree a.inputs x y) 
   scan_of-same q =
       ap (after a q (onward q.clock e)) (best-same a.inputs x y agree a.states q.state (onward q.clock e) a.transitions (all-fields a rules))
 
-  pub scan-ignores : (s : List ℕ) (end : ℕ) → read_sheet s ≡ ok a end → check_sheet s ≡ Accepted → (q : State) → scan_sheet s q x e ≡ scan_sheet s q y e
+  pub scan-ignores : (s : List ℕ) (end : ℕ) → read_sheet s ≡ ok a end → check_sheet s ≡ (Ok tt) → (q : State) → scan_sheet s q x e ≡ scan_sheet s q y e
   unfolding scan_sheet
   scan-ignores s end read acc q = with-sheet s a end read acc (refused q) _ ∙ rw (scan_of-same q) (sym (with-sheet s a end read acc (refused q) _))
 
-  run_by : (r : Record) (z : ℕ) → run_code (code_of a) r z e ≡ ran_with Accepted (record_of (run_scan (translate a) (mach_of r) z e).mach)
+  run_by : (r : Record) (z : ℕ) → run_code (code_of a) r z e ≡ ran_with (Ok tt) (record_of (run_scan (translate a) (mach_of r) z e).mach)
   unfolding code_of
   run_by r z = runs (translate a) (fit a rules) (check-code a rules) r z e
 
@@ -124,4 +124,4 @@ module _ (a : Sheet) (rules : Rules a) (x y : ℕ) (agree : Agree a.inputs x y) 
   run-ignores r =
       let from = with_clock (mach_of r) (onward r.clock e) in
       let same = exec-same a.inputs x y agree (translate a) reads 0 0 from false [] 0 in
-      run_by r x ∙ ap (λ (o : Out). ran_with Accepted (record_of o.mach)) same ∙ sym (run_by r y)
+      run_by r x ∙ ap (λ (o : Out). ran_with (Ok tt) (record_of o.mach)) same ∙ sym (run_by r y)

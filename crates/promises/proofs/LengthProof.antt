@@ -1,4 +1,5 @@
 -- The length rule, for a sheet that keeps the rules.
+use Rattle.std.specs.Prelude.{Ok}
 use mathlib.Core.Path.{◌≡◌, refl, ap, ◌∙◌}
 use mathlib.Core.Bool.{Bool, true, false}
 use mathlib.Core.List.{List, [], ◌∷◌}
@@ -8,7 +9,6 @@ use native.Mathlib.Nat.{mul-le-mul_left, mul-le-mul_right}
 use borrow.Author.Tests.{leb-true, leb-false}
 use lib.Dec.{leb}
 use lib.ListN.{length}
-use Rattle.answer.specs.declared.Checked.TheVariants.{Accepted}
 use Rattle.bits.specs.Read.{ok}
 use Rattle.condition.specs.Cond.{word_count}
 use Rattle.reader.specs.Sheet.{Transition, Sheet, count, transition_of, sum_over}
@@ -37,7 +37,7 @@ module _ (a : Sheet) (rules : Rules a) where
   pub bytes-are : length (code_of a) ≡ 4 * words_of a
   bytes-are = code-bytes a ∙ ap (λ n. 4 * n) words_are
 
-  pub fitted : (s : List ℕ) (end : ℕ) → read_sheet s ≡ ok a end → check_sheet s ≡ Accepted → (buffer : List ℕ)
+  pub fitted : (s : List ℕ) (end : ℕ) → read_sheet s ≡ ok a end → check_sheet s ≡ (Ok tt) → (buffer : List ℕ)
       → translate_into s buffer ≡ fitting buffer (4 * words_of a) (code_of a)
   fitted s end read acc buffer = translate-is s a end read acc buffer ∙ ap (λ n. fitting buffer n (code_of a)) bytes-are
 

@@ -1,4 +1,5 @@
 -- Worthless programs fail: each at a sheet, a buffer and a scan.
+use Rattle.std.specs.Prelude.{Ok, Err}
 use mathlib.Core.Path.{◌≡◌, refl, sym, ap, ◌∙◌}
 use mathlib.Core.Bool.{true, ◌||◌, or-true}
 use mathlib.Core.List.{List, [], ◌∷◌}
@@ -7,7 +8,6 @@ use native.Mathlib.Omega.{arith}
 use lib.Dec.{eqb, ltb}
 use lib.ListN.{length, get_or, take, replicate, length-replicate, get_or-replicate}
 use Rattle.answer.specs.declared.Refusal.TheVariants.{Short, CodeEnd}
-use Rattle.answer.specs.declared.Checked.TheVariants.{Accepted, Refused}
 use Rattle.answer.specs.Lowest.{any_below, first_below}
 use Rattle.bits.specs.Field.{field_at, num_at, bit_at}
 use Rattle.bits.specs.Read.{ok, upto}
@@ -38,11 +38,11 @@ use Rattle.promises.proofs.Breaking.{demanded}
 use Rattle.promises.proofs.TableProof.{two_read, two_accepted, two-words, two-checked, two-scan, cold-state, cold-flag, table}
 
 -- the checkers
-no_bytes : check_sheet [] ≡ Refused (Short 0)
+no_bytes : check_sheet [] ≡ Err (Short 0)
 unfolding check_sheet read_sheet read_header field_at
 no_bytes = refl
 
-no_code : check_code [] ≡ Refused CodeEnd
+no_code : check_code [] ≡ Err CodeEnd
 unfolding check_code end_fault
 no_code = refl
 
@@ -53,7 +53,7 @@ M = sheet_m 0x08 0x20 0x80
 abbrev room : List ℕ
 room = replicate 64 0xFF
 
-m-accepted : check_sheet M ≡ Accepted
+m-accepted : check_sheet M ≡ (Ok tt)
 unfolding check_sheet sheet_m read_sheet read_header row_at upto transition_at ends_at judge clashes lacks_home any_below first_below cond_at operands_at input_at
     field_at num_at bit_at get_bit bits_of is_on is_off is_gated
 m-accepted = refl
@@ -103,7 +103,7 @@ ff-end (suc n) =
     get_or-replicate (suc n) (length (ff (suc n)) - 4) 0xFF 0 (omega (arith, length-replicate {A = ℕ} n 0xFF)) in
     rw last (or-true (eqb (length (ff (suc n))) 0 || ltb 32768 (length (ff (suc n))) || ltb 0 (length (ff (suc n)) % 4)))
 
-ff-refused : (n m : ℕ) → check_code (take n (ff m)) ≡ Accepted → ⊥
+ff-refused : (n m : ℕ) → check_code (take n (ff m)) ≡ (Ok tt) → ⊥
 unfolding check_code
 ff-refused n m h = accepted-refused {why = CodeEnd} h (rw ((all-ff n m).1, ff-end (all-ff n m).0) refl)
 
@@ -177,7 +177,7 @@ worthless = record {
   code_refused = λ f is h. accepted-refused (is (code_of two_sheet) ∙ two-checked) (h (code_of two_sheet)).1;
   code_accepted = λ f is h. accepted-refused (h []) (is [] ∙ no_code);
   only_end = λ f is h.
-      let acc : (f M room).answer.verdict ≡ Accepted = ap (λ (w : Written). w.answer.verdict) (translates-is M room (f M room) (is M room) ∙ table.p11) in
+      let acc : (f M room).answer.verdict ≡ (Ok tt) = ap (λ (w : Written). w.answer.verdict) (translates-is M room (f M room) (is M room) ∙ table.p11) in
       let z : ◌≡◌ {A = ℕ} 4 64 =
       sym (ap length (h M room acc)) ∙ ap (λ w. length (code_in w)) (translates-is M room (f M room) (is M room)) ∙ ap length m-code in
       omega arith;

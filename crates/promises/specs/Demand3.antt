@@ -1,7 +1,6 @@
 -- Demand 3: any accepted sheet, its code, a cold start, and any scans after it. It is said of a translator and of a runner, as functions on bytes; the
 -- theorem says it of `translate_into` and `run_code`, which are what the code's contracts settle.
-use Rattle.std.specs.Prelude.{◌≡◌, List, ℕ, ◌*◌, ◌≤◌, length, take}
-use Rattle.answer.specs.declared.Checked.TheVariants.{Accepted}
+use Rattle.std.specs.Prelude.{◌≡◌, List, ℕ, ◌*◌, ◌≤◌, length, take, Ok}
 use Rattle.bits.specs.Read.{ok}
 use Rattle.reader.specs.Sheet.{Sheet}
 use Rattle.reader.specs.Reading.{read_sheet}
@@ -23,11 +22,11 @@ code_in w = take w.answer.length w.buffer
 -- the code that it leaves passes the check of code, and the two go together for ever
 abbrev pub Demand3 : Translator → Runner → Type 0
 Demand3 translator run =
-    (s : List ℕ) → check_sheet s ≡ Accepted
+    (s : List ℕ) → check_sheet s ≡ (Ok tt)
     → (a : Sheet) × (end : ℕ) × (read_sheet s ≡ ok a end)
-    × ((cold_scan s).verdict ≡ Accepted)
-    × ((cold_run s).verdict ≡ Accepted)
+    × ((cold_scan s).verdict ≡ (Ok tt))
+    × ((cold_run s).verdict ≡ (Ok tt))
     × ((buffer : List ℕ) → 4 * words_of a ≤ length buffer
-    → ((translator s buffer).answer.verdict ≡ Accepted)
-    × (check_code (code_in (translator s buffer)) ≡ Accepted)
+    → ((translator s buffer).answer.verdict ≡ (Ok tt))
+    × (check_code (code_in (translator s buffer)) ≡ (Ok tt))
     × ((ticks : List Tick) → Follows run s a (code_in (translator s buffer)) ticks))

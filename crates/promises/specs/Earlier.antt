@@ -1,10 +1,9 @@
 -- "Easy to get wrong": each entry of the paper's list as a translator, a runner or a check of sheets of its own beside
 -- ours, and that it does not meet the demand. The first three are the firm's versions one, two and three. Beside each
 -- refutation stands one scan of it: what the rules give, and what the mistake gives.
-use Rattle.std.specs.Prelude.{◌≡◌, Bool, true, false, not, ◌&&◌, cond, List, [], ◌∷◌, ◌++◌, ℕ, ◌+◌, ◌*◌, eqb, leb, length}
+use Rattle.std.specs.Prelude.{◌≡◌, Bool, true, false, not, ◌&&◌, cond, List, [], ◌∷◌, ◌++◌, ℕ, ◌+◌, ◌*◌, eqb, leb, length, Ok, Err}
 use Rattle.answer.specs.declared.Refusal.TheVariants.{Loop, Pair, Rank, NoHome, HomeForm, Gate, Activity, Room}
-use Rattle.answer.specs.declared.Checked.{Checked}
-use Rattle.answer.specs.declared.Checked.TheVariants.{Accepted, Refused}
+use Rattle.answer.specs.Checked.{Checked}
 use Rattle.answer.specs.Lowest.{first_below, refuse_at}
 use Rattle.bits.specs.Read.{Ans, ok, no}
 use Rattle.bits.specs.Word.{get_bit}
@@ -85,8 +84,8 @@ drawn = record { states = 9; inputs = 3; outputs = 4; rows = two_rows; transitio
 
 -- RUNNERS. What is done to the record behind an accepted scan
 abbrev pub behind : Checked → (Record → Record) → Record → Ran
-behind Accepted more r = ran_with Accepted (more r)
-behind (Refused why) more r = ran_with (Refused why) r
+behind (Ok tt) more r = ran_with (Ok tt) (more r)
+behind (Err why) more r = ran_with (Err why) r
 
 -- with the clock anew; and what is done where the flags have stayed
 abbrev pub at_clock : Record → ℕ → Record
@@ -111,7 +110,7 @@ run_zeroing code r word elapsed =
 unfoldable pub judge_by : (Cond → Bool) → Sheet → Checked
 judge_by gated a =
     let lacks : Transition → Bool = λ t. eqb t.source 0 && not (gated t.condition) in
-    let thirteen = refuse_at Activity (first_below (wrong_activity a) a.states) Accepted in
+    let thirteen = refuse_at Activity (first_below (wrong_activity a) a.states) (Ok tt) in
     let twelve = refuse_at Gate (first_below (λ i. lacks (transition_of a i)) (count a)) thirteen in
     let eleven = refuse_at HomeForm (first_below (λ i. lacks_home_form (transition_of a i)) (count a)) twelve in
     let ten = refuse_at NoHome (first_below (lacks_home a) a.states) eleven in
@@ -121,7 +120,7 @@ judge_by gated a =
 
 abbrev pub judge_read_by : (Cond → Bool) → Ans Sheet → Checked
 judge_read_by gated (ok a end) = judge_by gated a
-judge_read_by gated (no why) = Refused why
+judge_read_by gated (no why) = Err why
 
 unfoldable pub check_by : (Cond → Bool) → List ℕ → Checked
 check_by gated s = judge_read_by gated (read_sheet s)
@@ -147,7 +146,7 @@ out_by c =
 -- what GATE is for: with activation off, no sheet that the check accepts leaves state 0 in a scan from cold
 abbrev pub OffStays : (List ℕ → Checked) → Type 0
 OffStays check =
-    (s : List ℕ) → check s ≡ Accepted → (a : Sheet) (end : ℕ) → read_sheet s ≡ ok a end
+    (s : List ℕ) → check s ≡ (Ok tt) → (a : Sheet) (end : ℕ) → read_sheet s ≡ ok a end
     → (word elapsed : ℕ) → get_bit word 0 ≡ false → (scan_of a (cold_of a) word elapsed).state ≡ 0
 
 -- one scan from the record q: by the rules of the sheet it must give p, and with the code that is made of the sheet the
@@ -155,7 +154,7 @@ OffStays check =
 abbrev pub Gives : Sheet → (Sheet → List Word) → Runner → State → Tick → State → Record → Type 0
 Gives a make run q t p u =
     (scan_of a q t.word t.elapsed ≡ p)
-    × (run (to_bytes (make a)) (embed q) t.word t.elapsed ≡ record { verdict = Accepted; «record» = u })
+    × (run (to_bytes (make a)) (embed q) t.word t.elapsed ≡ record { verdict = (Ok tt); «record» = u })
 
 pub record Earlier : Type 0 where
   -- with the paper's block, order and test it is ours: a mistake below differs in the one thing that it names
@@ -170,7 +169,7 @@ pub record Earlier : Type 0 where
   pub two : Demand3 (writing translate_two) run_code → ⊥
   -- P13, "from state 3 with clock 99, 111/1 gives 5": a contact's change beats the time that has run out, and version
   -- two ends in 8
-  pub two_drawn : check_sheet (sheet_of drawn) ≡ Accepted
+  pub two_drawn : check_sheet (sheet_of drawn) ≡ (Ok tt)
   pub two_gives : Gives drawn translate_two run_code (state 3 2 99) (brings 1 1 1 1) (state 5 10 0) (flag 256 6 0)
   -- Version three. "Adding the elapsed time after the comparison: a wait of 100 then fires a scan late."
   pub three : Demand3 translate_into run_three → ⊥
@@ -193,6 +192,6 @@ pub record Earlier : Type 0 where
   pub gate_untested : OffStays (check_by untested) → ⊥
   -- input 1 is off at input word 0, and at input word 2 it leads out of state 0, activation being off; by its form it
   -- is refused: 12, at transition 1
-  pub gate_accepts : check_by (tried 0) (sheet_of (out_by (inp 1))) ≡ Accepted
+  pub gate_accepts : check_by (tried 0) (sheet_of (out_by (inp 1))) ≡ (Ok tt)
   pub gate_leaves : scan_of (out_by (inp 1)) (state 0 1 0) 2 10 ≡ state 1 0 0
   pub gate_refuses : Numbered (check_sheet (sheet_of (out_by (inp 1)))) 12 1

@@ -1,7 +1,6 @@
 -- "input i has weight 2^i; inputs k and above are ignored": words that agree in the inputs below k give the same scans, of the sheet and of its
 -- code, from any record.
-use Rattle.std.specs.Prelude.{◌≡◌, List, ℕ, ◌<◌}
-use Rattle.answer.specs.declared.Checked.TheVariants.{Accepted}
+use Rattle.std.specs.Prelude.{◌≡◌, List, ℕ, ◌<◌, Ok}
 use Rattle.bits.specs.Read.{ok}
 use Rattle.bits.specs.Word.{get_bit}
 use Rattle.reader.specs.Sheet.{Sheet}
@@ -18,7 +17,7 @@ Agree k word other = (i : ℕ) → i < k → get_bit word i ≡ get_bit other i
 
 abbrev pub InputsIgnored : Type 0
 InputsIgnored =
-    (s : List ℕ) → check_sheet s ≡ Accepted
+    (s : List ℕ) → check_sheet s ≡ (Ok tt)
     → (a : Sheet) × (end : ℕ) × (read_sheet s ≡ ok a end)
     × ((word other : ℕ) → Agree a.inputs word other → (elapsed : ℕ)
     → ((q : State) → scan_sheet s q word elapsed ≡ scan_sheet s q other elapsed)

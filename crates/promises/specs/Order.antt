@@ -1,7 +1,6 @@
 -- "Translation, in order: a block for each transition, by source and then by priority; JMP to END; for each state in
 -- order SA or RA for each output in order, TRES, JMP to END; END."
-use Rattle.std.specs.Prelude.{◌≡◌, List, [], ◌∷◌, ◌++◌, ℕ}
-use Rattle.answer.specs.declared.Checked.TheVariants.{Accepted}
+use Rattle.std.specs.Prelude.{◌≡◌, List, [], ◌∷◌, ◌++◌, ℕ, Ok}
 use Rattle.bits.specs.Read.{ok}
 use Rattle.reader.specs.Sheet.{Sheet}
 use Rattle.reader.specs.Reading.{read_sheet}
@@ -18,7 +17,7 @@ behind a = JMP (end_at a) ∷ state_blocks (end_at a) a.rows ++ (END ∷ [])
 -- exactly these
 abbrev pub BlocksInOrder : Type 0
 BlocksInOrder =
-    (s : List ℕ) → check_sheet s ≡ Accepted
+    (s : List ℕ) → check_sheet s ≡ (Ok tt)
     → (a : Sheet) × (end : ℕ) × (read_sheet s ≡ ok a end)
     × BlockOrder a (sort a.transitions)
     × (translate a ≡ blocks (state_at a) (sort a.transitions) ++ behind a)

@@ -1,9 +1,8 @@
 -- "Try these worthless programs against it": each program that the paper names, and a proof that it can't meet its contract, or the demand.
 -- A contract is the relation that the function cites, for all inputs.
-use Rattle.std.specs.Prelude.{◌≡◌, List, [], ◌∷◌, ℕ, ◌<◌}
+use Rattle.std.specs.Prelude.{◌≡◌, List, [], ◌∷◌, ℕ, ◌<◌, Ok, Err}
 use Rattle.answer.specs.declared.Refusal.{Refusal}
-use Rattle.answer.specs.declared.Checked.{Checked}
-use Rattle.answer.specs.declared.Checked.TheVariants.{Accepted, Refused}
+use Rattle.answer.specs.Checked.{Checked}
 use Rattle.bits.specs.Read.{ok}
 use Rattle.reader.specs.Sheet.{Sheet}
 use Rattle.reader.specs.Reading.{read_sheet}
@@ -30,14 +29,14 @@ TranslatesAll f = (s buffer : List ℕ) → Translates s buffer (f s buffer).ans
 
 -- checkers that answer the same to everything
 abbrev pub RefusesAll : (List ℕ → Checked) → Type 0
-RefusesAll f = (s : List ℕ) → (why : Refusal) × (f s ≡ Refused why)
+RefusesAll f = (s : List ℕ) → (why : Refusal) × (f s ≡ Err why)
 
 abbrev pub AcceptsAll : (List ℕ → Checked) → Type 0
-AcceptsAll f = (s : List ℕ) → f s ≡ Accepted
+AcceptsAll f = (s : List ℕ) → f s ≡ (Ok tt)
 
 -- translators that leave END alone wherever they accept, or no byte at all, whatever they answer
 abbrev pub WritesEnd : Translator → Type 0
-WritesEnd f = (s buffer : List ℕ) → (f s buffer).answer.verdict ≡ Accepted → code_in (f s buffer) ≡ to_bytes (END ∷ [])
+WritesEnd f = (s buffer : List ℕ) → (f s buffer).answer.verdict ≡ (Ok tt) → code_in (f s buffer) ≡ to_bytes (END ∷ [])
 
 abbrev pub WritesNothing : Translator → Type 0
 WritesNothing f = (s buffer : List ℕ) → (f s buffer).buffer ≡ buffer
@@ -74,6 +73,6 @@ NoInventedRoom =
 -- and every wrong runner: whatever meets demand 3 with the translator has, on any accepted sheet and after any scans, the record that `run_code` has
 abbrev pub OneRunner : Type 0
 OneRunner =
-    (f : Runner) → Demand3 translate_into f → (s : List ℕ) → check_sheet s ≡ Accepted
+    (f : Runner) → Demand3 translate_into f → (s : List ℕ) → check_sheet s ≡ (Ok tt)
     → (a : Sheet) × (end : ℕ) × (read_sheet s ≡ ok a end)
     × ((ticks : List Tick) → run_after f s (code_of a) ticks ≡ run_after run_code s (code_of a) ticks)

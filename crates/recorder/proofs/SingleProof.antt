@@ -3,7 +3,7 @@ use Prim.Native.Nat.{ℕ}
 use mathlib.Core.Path.{◌≡◌, refl}
 use mathlib.Core.List.{List}
 use Rattle.answer.specs.Number.{number_of, place_of}
-use Rattle.answer.specs.declared.Checked.{Checked}
+use Rattle.answer.specs.Checked.{Checked}
 use Rattle.scan.specs.declared.State.{State}
 use Rattle.scan.specs.declared.Scanned.{Scanned}
 use Rattle.scan.specs.Scan.{scan_sheet, cold_scan}

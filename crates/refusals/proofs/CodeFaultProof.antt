@@ -1,4 +1,5 @@
 -- Numbers 15 to 17: the check of code answers the lowest fault.
+use Rattle.std.specs.Prelude.{Ok, Err, Some, None}
 use mathlib.Core.Path.{◌≡◌, refl, sym, ap, ◌∙◌}
 use mathlib.Core.Logic.{◌⊎◌, inl, inr}
 use mathlib.Core.Bool.{Bool, true, false, ◌||◌, cond}
@@ -10,10 +11,8 @@ use borrow.Author.Tests.{eqb-true, eq-eqb, ltb-true, lt-ltb}
 use lib.Dec.{eqb, ltb}
 use lib.ListN.{length, get_or, length-map, get_or-map}
 use Rattle.answer.specs.declared.Refusal.TheVariants as refuse
-use Rattle.answer.specs.declared.Checked.{Checked}
-use Rattle.answer.specs.declared.Checked.TheVariants.{Accepted, Refused}
-use Rattle.answer.specs.declared.Found.{Found}
-use Rattle.answer.specs.declared.Found.TheVariants.{At, Nothing}
+use Rattle.answer.specs.Checked.{Checked}
+use Rattle.std.specs.declared.option.Option.{Option}
 use Rattle.answer.specs.Lowest.{refuse_at}
 use Rattle.words.specs.Word.{Word, END, known, decode, words}
 use Rattle.faults.specs.Check.{end_fault, opens, faulty, unknown, here_or, first_fault, depth_at, lands_open, first_landing, check_code}
@@ -26,29 +25,29 @@ abbrev Later : (ℕ → Bool) → ℕ → Bool
 Later test j = test (suc j)
 
 -- the lowest place in the list, counted from pc
-abbrev FirstFrom : ℕ → (ℕ → Bool) → ℕ → Found → Type 0
-FirstFrom pc test n (At i) = (j : ℕ) × (i ≡ pc + j) × (j < n) × (test j ≡ true) × ((h : ℕ) → h < j → test h ≡ false)
-FirstFrom pc test n Nothing = (h : ℕ) → h < n → test h ≡ false
+abbrev FirstFrom : ℕ → (ℕ → Bool) → ℕ → Option ℕ → Type 0
+FirstFrom pc test n (Some i) = (j : ℕ) × (i ≡ pc + j) × (j < n) × (test j ≡ true) × ((h : ℕ) → h < j → test h ≡ false)
+FirstFrom pc test n None = (h : ℕ) → h < n → test h ≡ false
 
-first-from : (pc n : ℕ) (test : ℕ → Bool) (b : Bool) → test 0 ≡ b → (found : Found) → FirstFrom (suc pc) (Later test) n found
+first-from : (pc n : ℕ) (test : ℕ → Bool) (b : Bool) → test 0 ≡ b → (found : Option ℕ) → FirstFrom (suc pc) (Later test) n found
     → FirstFrom pc test (suc n) (here_or b pc found)
 first-from pc n test true e found h = (0, sym (add-zero pc), omega arith, e, λ i l. absurd (omega arith))
-first-from pc n test false e (At i) h = (suc h.0, omega (arith, h.1), omega (arith, h.2), h.3, each)
+first-from pc n test false e (Some i) h = (suc h.0, omega (arith, h.1), omega (arith, h.2), h.3, each)
   where
     each : (j : ℕ) → j < suc h.0 → test j ≡ false
     each zero l = e
     each (suc j) l = h.4 j (omega arith)
-first-from pc n test false e Nothing h = each
+first-from pc n test false e None h = each
   where
     each : (j : ℕ) → j < suc n → test j ≡ false
     each zero l = e
     each (suc j) l = h j (omega arith)
 
-from_zero : (test : ℕ → Bool) (n : ℕ) (found : Found) → FirstFrom 0 test n found → FirstOf test n found
-from_zero test n (At i) h =
+from_zero : (test : ℕ → Bool) (n : ℕ) (found : Option ℕ) → FirstFrom 0 test n found → FirstOf test n found
+from_zero test n (Some i) h =
     let e : i ≡ h.0 = omega (arith, h.1) in
     (omega (arith, h.2), rw e h.3, λ j l. h.4 j (omega arith))
-from_zero test n Nothing h = h
+from_zero test n None h = h
 
 -- a word at fault, of the words from word pc on with d parentheses open
 unfoldable fault_at : ℕ → ℕ → ℕ → List ℕ → ℕ → Bool
@@ -65,10 +64,10 @@ fault-first n pc d (w ∷ ws) =
     at j =
         ap (λ p. unknown (get_or ws j 0) || faulty n p (depth_at (opens (decode w) d) (map decode ws) j) (decode (get_or ws j 0))) (suc-add pc j ∙ sym (add-suc pc j))
 
-    shifted : (f : Found) → FirstFrom (suc pc) (fault_at n (suc pc) (opens (decode w) d) ws) (length ws) f
+    shifted : (f : Option ℕ) → FirstFrom (suc pc) (fault_at n (suc pc) (opens (decode w) d) ws) (length ws) f
         → FirstFrom (suc pc) (Later (fault_at n pc d (w ∷ ws))) (length ws) f
-    shifted (At i) h = (h.0, h.1, h.2, sym (at h.0) ∙ h.3, λ j l. sym (at j) ∙ h.4 j l)
-    shifted Nothing h = λ j l. sym (at j) ∙ h j l
+    shifted (Some i) h = (h.0, h.1, h.2, sym (at h.0) ∙ h.3, λ j l. sym (at j) ∙ h.4 j l)
+    shifted None h = λ j l. sym (at j) ∙ h j l
 
 landing-first : (code : List Word) (pc : ℕ) (is : List Word)
     → FirstFrom pc (λ j. lands_open code (get_or is j END)) (length is) (first_landing code pc is)
@@ -135,9 +134,9 @@ module _ (s : List ℕ) where
   word_first : FirstOf fault (length ws) (first_fault (length ws) 0 0 ws)
   word_first = go (first_fault (length ws) 0 0 ws) (from_zero (fault_at (length ws) 0 0 ws) (length ws) (first_fault (length ws) 0 0 ws) (fault-first (length ws) 0 0 ws))
     where
-      go : (f : Found) → FirstOf (fault_at (length ws) 0 0 ws) (length ws) f → FirstOf fault (length ws) f
-      go (At i) h = (h.0, sym (fault-is i) ∙ h.1, λ j l. sym (fault-is j) ∙ h.2 j l)
-      go Nothing h = λ j l. sym (fault-is j) ∙ h j l
+      go : (f : Option ℕ) → FirstOf (fault_at (length ws) 0 0 ws) (length ws) f → FirstOf fault (length ws) f
+      go (Some i) h = (h.0, sym (fault-is i) ∙ h.1, λ j l. sym (fault-is j) ∙ h.2 j l)
+      go None h = λ j l. sym (fault-is j) ∙ h j l
 
   abbrev opened : ℕ → Bool
   opened p = lands_open is (get_or is p END)
@@ -177,7 +176,7 @@ module _ (s : List ℕ) where
   to-17 n p h (landing k l e o) = omega arith
 
   abbrev seventeen : Checked
-  seventeen = refuse_at refuse.Landing (first_landing is 0 is) Accepted
+  seventeen = refuse_at refuse.Landing (first_landing is 0 is) (Ok tt)
 
   abbrev sixteen : Checked
   sixteen = refuse_at refuse.Word (first_fault (length ws) 0 0 ws) seventeen
@@ -185,7 +184,7 @@ module _ (s : List ℕ) where
   low-17 : Lowest (From (CodeFault s) 17) seventeen
   low-17 =
       lowest_step (CodeFault s) 17 refuse.Landing opened (length is) (λ i l e. let h = (landing-fault is (get_or ws i 0)).0 (rw (at-word i) at e) in (refl, refl, landing refl (rw (length-map ws decode) at l) h.0 h.1)) landing-test
-      (first_landing is 0 is) landing-of Accepted (lowest-end (CodeFault s) 18 to-17)
+      (first_landing is 0 is) landing-of (Ok tt) (lowest-end (CodeFault s) 18 to-17)
 
   low-16 : Lowest (From (CodeFault s) 16) sixteen
   low-16 =
@@ -196,11 +195,11 @@ module _ (s : List ℕ) where
   unfolding check_code
   code-lowest = lowest-all (CodeFault s) 15 from-15 (check_code s) (go (end_fault s) refl)
     where
-      step : (found : Found) → FirstOf (λ i. end_fault s) 1 found → Lowest (From (CodeFault s) 15) (refuse_at (λ i. refuse.CodeEnd) found sixteen)
+      step : (found : Option ℕ) → FirstOf (λ i. end_fault s) 1 found → Lowest (From (CodeFault s) 15) (refuse_at (λ i. refuse.CodeEnd) found sixteen)
       step found h =
           lowest_step (CodeFault s) 15 (λ i. refuse.CodeEnd) (λ i. end_fault s) 1
           (λ i l e. let z : i ≡ 0 = omega arith in (refl, sym z, code_end refl z (ends_of e))) end_test found h sixteen low-16
 
-      go : (b : Bool) → end_fault s ≡ b → Lowest (From (CodeFault s) 15) (cond b (Refused refuse.CodeEnd) sixteen)
-      go true e = step (At 0) (omega arith, e, λ j l. absurd (omega arith))
-      go false e = step Nothing (λ j l. e)
+      go : (b : Bool) → end_fault s ≡ b → Lowest (From (CodeFault s) 15) (cond b (Err refuse.CodeEnd) sixteen)
+      go true e = step (Some 0) (omega arith, e, λ j l. absurd (omega arith))
+      go false e = step None (λ j l. e)

@@ -1,4 +1,5 @@
 -- Numbers 7 to 13: the judge answers the lowest fault of the sheet.
+use Rattle.std.specs.Prelude.{Ok}
 use mathlib.Core.Path.{◌≡◌, refl, sym, ap}
 use mathlib.Core.Logic.{inl, inr}
 use mathlib.Core.Bool.{Bool, true, false, not, ◌&&◌}
@@ -7,8 +8,7 @@ use native.Mathlib.Omega.{arith}
 use borrow.Author.Tests.{eqb-true, eq-eqb, ltb-true, lt-ltb, not-true}
 use lib.Dec.{eqb, ltb}
 use Rattle.answer.specs.declared.Refusal.TheVariants as refuse
-use Rattle.answer.specs.declared.Checked.{Checked}
-use Rattle.answer.specs.declared.Checked.TheVariants.{Accepted}
+use Rattle.answer.specs.Checked.{Checked}
 use Rattle.answer.specs.Lowest.{any_below, first_below, refuse_at}
 use Rattle.answer.proofs.Laws.{any-hit}
 use Rattle.condition.specs.Cond.{Cond, inp, neg, conj, disj, is_on, is_off, is_gated}
@@ -192,7 +192,7 @@ module _ (a : Sheet) where
 
   -- the answers from each number on
   abbrev thirteen : Checked
-  thirteen = refuse_at refuse.Activity (first_below (wrong_activity a) a.states) Accepted
+  thirteen = refuse_at refuse.Activity (first_below (wrong_activity a) a.states) (Ok tt)
 
   abbrev twelve : Checked
   twelve = refuse_at refuse.Gate (first_below (λ i. lacks_gate (transition_of a i)) (count a)) thirteen
@@ -211,7 +211,7 @@ module _ (a : Sheet) where
 
   from-13 : Lowest (From (SheetFault a) 13) thirteen
   from-13 =
-      lowest-below (SheetFault a) 13 refuse.Activity (wrong_activity a) a.states (λ i l e. (refl, refl, activity refl l (differ _ _ e))) activity-test Accepted
+      lowest-below (SheetFault a) 13 refuse.Activity (wrong_activity a) a.states (λ i l e. (refl, refl, activity refl l (differ _ _ e))) activity-test (Ok tt)
       (lowest-end (SheetFault a) 14 to-13)
 
   from-12 : Lowest (From (SheetFault a) 12) twelve

@@ -1,4 +1,5 @@
 -- What a refusal leaves: each call by the sheet's answer.
+use Rattle.std.specs.Prelude.{Ok, Err}
 use mathlib.Core.Path.{◌≡◌, refl, sym, ap, ◌∙◌}
 use mathlib.Core.Logic.{◌⊎◌, inl, inr, ⊎_elim}
 use mathlib.Core.Bool.{Bool, true, false, cond}
@@ -13,8 +14,7 @@ use lib.Seq.{sets-eq}
 use Rattle.answer.specs.declared.Refusal.{Refusal}
 use Rattle.answer.specs.Number.{number, place}
 use Rattle.answer.specs.declared.Refusal.TheVariants.{Room, NoState}
-use Rattle.answer.specs.declared.Checked.{Checked}
-use Rattle.answer.specs.declared.Checked.TheVariants.{Accepted, Refused}
+use Rattle.answer.specs.Checked.{Checked}
 use Rattle.bits.specs.Read.{Ans, ok, no}
 use Rattle.reader.specs.Sheet.{Sheet}
 use Rattle.reader.specs.Reading.{read_sheet}
@@ -32,16 +32,16 @@ use Rattle.same.proofs.AcceptedLaws.{accepted-refused, refused-is}
 
 -- A call goes on with an accepted sheet, or refuses with the check's refusal.
 data Called {B : Type 0} (s : List ℕ) (refuse : Refusal → B) (go : Sheet → B) (b : B) : Type 0 where
-  went : (a : Sheet) (end : ℕ) → read_sheet s ≡ ok a end → check_sheet s ≡ Accepted → b ≡ go a → Called s refuse go b
-  not_gone : (why : Refusal) → check_sheet s ≡ Refused why → b ≡ refuse why → Called s refuse go b
+  went : (a : Sheet) (end : ℕ) → read_sheet s ≡ ok a end → check_sheet s ≡ (Ok tt) → b ≡ go a → Called s refuse go b
+  not_gone : (why : Refusal) → check_sheet s ≡ Err why → b ≡ refuse why → Called s refuse go b
 
 called : {B : Type 0} (s : List ℕ) (refuse : Refusal → B) (go : Sheet → B) → Called s refuse go (with_sheet s refuse go)
 unfolding with_sheet check_sheet
 called {B} s refuse go = by (read_sheet s) refl
   where
     on : (a : Sheet) (end : ℕ) (c : Checked) → read_sheet s ≡ ok a end → judge a ≡ c → Called s refuse go (judged_or c refuse (go a))
-    on a end Accepted e j = went a end e (rw e j) refl
-    on a end (Refused why) e j = not_gone why (rw e j) refl
+    on a end (Ok tt) e j = went a end e (rw e j) refl
+    on a end (Err why) e j = not_gone why (rw e j) refl
 
     by : (r : Ans Sheet) → read_sheet s ≡ r → Called s refuse go (read_or r refuse go)
     by (ok a end) e = on a end (judge a) e refl
@@ -49,17 +49,17 @@ called {B} s refuse go = by (read_sheet s) refl
 
 -- what a call answers
 module _ {B : Type 0} (verdict : B → Checked) (s : List ℕ) (refuse : Refusal → B) (go : Sheet → B)
-    (refuses : (why : Refusal) → verdict (refuse why) ≡ Refused why) where
+    (refuses : (why : Refusal) → verdict (refuse why) ≡ Err why) where
   -- where the check refuses, so does it
-  sheet-refused : (why : Refusal) → check_sheet s ≡ Refused why → verdict (with_sheet s refuse go) ≡ Refused why
+  sheet-refused : (why : Refusal) → check_sheet s ≡ Err why → verdict (with_sheet s refuse go) ≡ Err why
   sheet-refused why c = by (called s refuse go)
     where
-      by : Called s refuse go (with_sheet s refuse go) → verdict (with_sheet s refuse go) ≡ Refused why
+      by : Called s refuse go (with_sheet s refuse go) → verdict (with_sheet s refuse go) ≡ Err why
       by (went a end r acc e) = absurd (accepted-refused acc c)
       by (not_gone q d e) = ap verdict e ∙ refuses q ∙ sym d ∙ c
 
   -- if it refuses no accepted sheet, it answers as the check does
-  same-verdict : ((a : Sheet) → verdict (go a) ≡ Accepted) → verdict (with_sheet s refuse go) ≡ check_sheet s
+  same-verdict : ((a : Sheet) → verdict (go a) ≡ (Ok tt)) → verdict (with_sheet s refuse go) ≡ check_sheet s
   same-verdict goes = by (called s refuse go)
     where
       by : Called s refuse go (with_sheet s refuse go) → verdict (with_sheet s refuse go) ≡ check_sheet s
@@ -67,16 +67,16 @@ module _ {B : Type 0} (verdict : B → Checked) (s : List ℕ) (refuse : Refusal
       by (not_gone q d e) = ap verdict e ∙ refuses q ∙ sym d
 
   -- a refusal is that of the sheet or that of what is done with it
-  whose : (why : Refusal) → verdict (with_sheet s refuse go) ≡ Refused why → (check_sheet s ≡ Refused why) ⊎ ((a : Sheet) × (verdict (go a) ≡ Refused why))
+  whose : (why : Refusal) → verdict (with_sheet s refuse go) ≡ Err why → (check_sheet s ≡ Err why) ⊎ ((a : Sheet) × (verdict (go a) ≡ Err why))
   whose why v = by (called s refuse go)
     where
-      by : Called s refuse go (with_sheet s refuse go) → (check_sheet s ≡ Refused why) ⊎ ((a : Sheet) × (verdict (go a) ≡ Refused why))
+      by : Called s refuse go (with_sheet s refuse go) → (check_sheet s ≡ Err why) ⊎ ((a : Sheet) × (verdict (go a) ≡ Err why))
       by (went a end r acc e) = inr (a, sym (ap verdict e) ∙ v)
       by (not_gone q d e) = inl (d ∙ sym (refuses q) ∙ sym (ap verdict e) ∙ v)
 
   -- what a refusal leaves
-  rest-is : {R : Type 0} (rest : B → R) (x : R) → ((why : Refusal) → rest (refuse why) ≡ x) → ((a : Sheet) (why : Refusal) → verdict (go a) ≡ Refused why → rest (go a) ≡ x)
-      → (why : Refusal) → verdict (with_sheet s refuse go) ≡ Refused why → rest (with_sheet s refuse go) ≡ x
+  rest-is : {R : Type 0} (rest : B → R) (x : R) → ((why : Refusal) → rest (refuse why) ≡ x) → ((a : Sheet) (why : Refusal) → verdict (go a) ≡ Err why → rest (go a) ≡ x)
+      → (why : Refusal) → verdict (with_sheet s refuse go) ≡ Err why → rest (with_sheet s refuse go) ≡ x
   rest-is rest x left gone why v = by (called s refuse go)
     where
       by : Called s refuse go (with_sheet s refuse go) → rest (with_sheet s refuse go) ≡ x
@@ -90,30 +90,30 @@ scanned q word elapsed a = cond (ltb q.state a.states) (accepted (scan_of a q wo
 abbrev wrote : List ℕ → Sheet → Written
 wrote buffer a = cond (leb (length (code_of a)) (length buffer)) (written_with buffer (code_of a)) (unwritten buffer (Room (length (code_of a))))
 
-scan-left : (q : State) (word elapsed : ℕ) (a : Sheet) (why : Refusal) → (scanned q word elapsed a).verdict ≡ Refused why
+scan-left : (q : State) (word elapsed : ℕ) (a : Sheet) (why : Refusal) → (scanned q word elapsed a).verdict ≡ Err why
     → ((scanned q word elapsed a).«record» ≡ q) × (why ≡ NoState q.state)
 scan-left q word elapsed a why = go (ltb q.state a.states)
   where
-    go : (b : Bool) → (cond b (accepted (scan_of a q word elapsed)) (refused q (NoState q.state))).verdict ≡ Refused why
+    go : (b : Bool) → (cond b (accepted (scan_of a q word elapsed)) (refused q (NoState q.state))).verdict ≡ Err why
         → ((cond b (accepted (scan_of a q word elapsed)) (refused q (NoState q.state))).«record» ≡ q) × (why ≡ NoState q.state)
     go true e = absurd (accepted-refused refl e)
     go false e = (refl, sym (refused-is e))
 
-room-left : (buffer : List ℕ) (a : Sheet) (why : Refusal) → (wrote buffer a).answer.verdict ≡ Refused why
+room-left : (buffer : List ℕ) (a : Sheet) (why : Refusal) → (wrote buffer a).answer.verdict ≡ Err why
     → (wrote buffer a ≡ unwritten buffer why) × (why ≡ Room (length (code_of a)))
 room-left buffer a why = go (leb (length (code_of a)) (length buffer))
   where
-    go : (b : Bool) → (cond b (written_with buffer (code_of a)) (unwritten buffer (Room (length (code_of a))))).answer.verdict ≡ Refused why
+    go : (b : Bool) → (cond b (written_with buffer (code_of a)) (unwritten buffer (Room (length (code_of a))))).answer.verdict ≡ Err why
         → (cond b (written_with buffer (code_of a)) (unwritten buffer (Room (length (code_of a)))) ≡ unwritten buffer why) × (why ≡ Room (length (code_of a)))
     go true e = absurd (accepted-refused refl e)
     go false e = let same : Room (length (code_of a)) ≡ why = refused-is e in (ap (unwritten buffer) same, sym same)
 
-room-written : (buffer : List ℕ) (a : Sheet) → (wrote buffer a).answer.verdict ≡ Accepted
+room-written : (buffer : List ℕ) (a : Sheet) → (wrote buffer a).answer.verdict ≡ (Ok tt)
     → ((wrote buffer a).buffer ≡ code_of a ++ drop (length (code_of a)) buffer) × ((wrote buffer a).answer.length ≡ length (code_of a))
 room-written buffer a = go (leb (length (code_of a)) (length buffer)) refl
   where
     go : (b : Bool) → leb (length (code_of a)) (length buffer) ≡ b
-        → (cond b (written_with buffer (code_of a)) (unwritten buffer (Room (length (code_of a))))).answer.verdict ≡ Accepted
+        → (cond b (written_with buffer (code_of a)) (unwritten buffer (Room (length (code_of a))))).answer.verdict ≡ (Ok tt)
         → ((cond b (written_with buffer (code_of a)) (unwritten buffer (Room (length (code_of a))))).buffer ≡ code_of a ++ drop (length (code_of a)) buffer)
         × ((cond b (written_with buffer (code_of a)) (unwritten buffer (Room (length (code_of a))))).answer.length ≡ length (code_of a))
     go true f e =
@@ -123,16 +123,16 @@ room-written buffer a = go (leb (length (code_of a)) (length buffer)) refl
 
 -- code is refused by the check alone
 run-left : (c : Checked) (code : List ℕ) (r : Record) (word elapsed : ℕ) → (ran_by c code r word elapsed).verdict ≡ c
-run-left Accepted code r word elapsed = refl
-run-left (Refused why) code r word elapsed = refl
+run-left (Ok tt) code r word elapsed = refl
+run-left (Err why) code r word elapsed = refl
 
-run-back : (c : Checked) (code : List ℕ) (r : Record) (word elapsed : ℕ) (why : Refusal) → (ran_by c code r word elapsed).verdict ≡ Refused why
+run-back : (c : Checked) (code : List ℕ) (r : Record) (word elapsed : ℕ) (why : Refusal) → (ran_by c code r word elapsed).verdict ≡ Err why
     → (ran_by c code r word elapsed).«record» ≡ r
-run-back Accepted code r word elapsed why e = absurd (accepted-refused refl e)
-run-back (Refused q) code r word elapsed why e = refl
+run-back (Ok tt) code r word elapsed why e = absurd (accepted-refused refl e)
+run-back (Err q) code r word elapsed why e = refl
 
 -- an accepted translation
-written_is : (s buffer : List ℕ) → (translate_into s buffer).answer.verdict ≡ Accepted
+written_is : (s buffer : List ℕ) → (translate_into s buffer).answer.verdict ≡ (Ok tt)
     → (a : Sheet) × (end : ℕ) × (read_sheet s ≡ ok a end)
     × ((translate_into s buffer).buffer ≡ code_of a ++ drop (length (code_of a)) buffer)
     × ((translate_into s buffer).answer.length ≡ length (code_of a))
@@ -159,7 +159,7 @@ abbrev of-written : Written → Checked
 of-written w = w.answer.verdict
 
 abbrev cold-of : Sheet → Cold
-cold-of a = record { verdict = Accepted; «record» = cold_record a }
+cold-of a = record { verdict = (Ok tt); «record» = cold_record a }
 
 pub left : Left
 unfolding scan_sheet cold_scan translate_into cold_run run_code

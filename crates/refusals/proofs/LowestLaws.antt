@@ -1,4 +1,5 @@
 -- "the lowest number first, and within it the lowest place": one rule put in front of the later ones.
+use Rattle.std.specs.Prelude.{Ok, Err, Some, None}
 use mathlib.Core.Path.{◌≡◌, refl}
 use mathlib.Core.Logic.{◌⊎◌, inl, inr, ◌≢◌}
 use mathlib.Core.Bool.{Bool, true, false, ◌||◌}
@@ -7,10 +8,8 @@ use native.Mathlib.Omega.{arith}
 use borrow.Author.Tests.{eqb-true, eqb-false, ltb-true, ltb-false}
 use lib.Dec.{eqb, ltb}
 use Rattle.answer.specs.declared.Refusal.{Refusal}
-use Rattle.answer.specs.declared.Checked.{Checked}
-use Rattle.answer.specs.declared.Checked.TheVariants.{Accepted, Refused}
-use Rattle.answer.specs.declared.Found.{Found}
-use Rattle.answer.specs.declared.Found.TheVariants.{At, Nothing}
+use Rattle.answer.specs.Checked.{Checked}
+use Rattle.std.specs.declared.option.Option.{Option}
 use Rattle.answer.specs.Lowest.{any_below, or_at, first_below, refuse_at}
 use Rattle.answer.specs.Number.{number, place}
 use Rattle.refusals.specs.Refusals.{Lowest}
@@ -19,20 +18,20 @@ pub true-false : {b : Bool} → b ≡ true → b ≡ false → ⊥
 true-false e f = let z : ◌≡◌ {A = ℕ} 0 1 = cc in omega arith
 
 -- the lowest of n places where a test holds, or none
-abbrev pub FirstOf : (ℕ → Bool) → ℕ → Found → Type 0
-FirstOf test n (At i) = (i < n) × (test i ≡ true) × ((j : ℕ) → j < i → test j ≡ false)
-FirstOf test n Nothing = (j : ℕ) → j < n → test j ≡ false
+abbrev pub FirstOf : (ℕ → Bool) → ℕ → Option ℕ → Type 0
+FirstOf test n (Some i) = (i < n) × (test i ≡ true) × ((j : ℕ) → j < i → test j ≡ false)
+FirstOf test n None = (j : ℕ) → j < n → test j ≡ false
 
 pub first_of : (test : ℕ → Bool) (n : ℕ) → FirstOf test n (first_below test n)
 unfolding first_below
 first_of test zero = λ j l. absurd (omega arith)
 first_of test (suc n) = go (first_below test n) (first_of test n)
   where
-    go : (f : Found) → FirstOf test n f → FirstOf test (suc n) (or_at f (test n) n)
-    go (At i) h = (omega (arith, h.0), h.1, h.2)
-    go Nothing h = here (test n) refl
+    go : (f : Option ℕ) → FirstOf test n f → FirstOf test (suc n) (or_at f (test n) n)
+    go (Some i) h = (omega (arith, h.0), h.1, h.2)
+    go None h = here (test n) refl
       where
-        here : (b : Bool) → test n ≡ b → FirstOf test (suc n) (or_at Nothing b n)
+        here : (b : Bool) → test n ≡ b → FirstOf test (suc n) (or_at None b n)
         here true e = (omega arith, e, h)
         here false e = each
           where
@@ -60,16 +59,16 @@ From Fault m n p = (m ≤ n) × Fault n p
 
 module _ (Fault : ℕ → ℕ → Type 0) where
   -- past the last number nothing is at fault
-  pub lowest-end : (m : ℕ) → ((n p : ℕ) → m ≤ n → Fault n p → ⊥) → Lowest (From Fault m) Accepted
+  pub lowest-end : (m : ℕ) → ((n p : ℕ) → m ≤ n → Fault n p → ⊥) → Lowest (From Fault m) (Ok tt)
   lowest-end m h n p f = h n p f.0 f.1
 
   -- number m at the lowest place where its test holds; else the later numbers
   pub lowest_step : (m : ℕ) (why : ℕ → Refusal) (test : ℕ → Bool) (size : ℕ)
       → ((i : ℕ) → i < size → test i ≡ true → (number (why i) ≡ m) × (place (why i) ≡ i) × Fault m i)
       → ((i : ℕ) → Fault m i → (i < size) × (test i ≡ true))
-      → (found : Found) → FirstOf test size found → (later : Checked) → Lowest (From Fault (suc m)) later
+      → (found : Option ℕ) → FirstOf test size found → (later : Checked) → Lowest (From Fault (suc m)) later
       → Lowest (From Fault m) (refuse_at why found later)
-  lowest_step m why test size sound complete (At i) h later l =
+  lowest_step m why test size sound complete (Some i) h later l =
       let w = sound i h.0 h.1 in
       ((omega (arith, w.0), rw (w.0, w.1) w.2), low)
     where
@@ -92,7 +91,7 @@ module _ (Fault : ℕ → ℕ → Type 0) where
           go : (b : Bool) → eqb m n ≡ b → (number (why i) < n) ⊎ ((number (why i) ≡ n) × (place (why i) ≤ p))
           go true e = inr (omega (arith, w.0, eqb-true m n e), at (eqb-true m n e))
           go false e = let ne : m ≢ n = eqb-false m n e in inl (omega (arith, w.0, f.0))
-  lowest_step m why test size sound complete Nothing h later l = pass later l
+  lowest_step m why test size sound complete None h later l = pass later l
     where
       -- nothing has number m
       up : (n p : ℕ) → From Fault m n p → From Fault (suc m) n p
@@ -103,8 +102,8 @@ module _ (Fault : ℕ → ℕ → Type 0) where
           go false e = let ne : m ≢ n = eqb-false m n e in (omega (arith, f.0), f.1)
 
       pass : (c : Checked) → Lowest (From Fault (suc m)) c → Lowest (From Fault m) c
-      pass Accepted l = λ n p f. l n p (up n p f)
-      pass (Refused why) l = ((omega (arith, l.0.0), l.0.1), λ n p f. l.1 n p (up n p f))
+      pass (Ok tt) l = λ n p f. l n p (up n p f)
+      pass (Err why) l = ((omega (arith, l.0.0), l.0.1), λ n p f. l.1 n p (up n p f))
 
   -- the same for a search over the first places
   pub lowest-below : (m : ℕ) (why : ℕ → Refusal) (test : ℕ → Bool) (size : ℕ)
@@ -115,5 +114,5 @@ module _ (Fault : ℕ → ℕ → Type 0) where
 
   -- from the first number on, these are all the faults
   pub lowest-all : (m : ℕ) → ((n p : ℕ) → Fault n p → m ≤ n) → (c : Checked) → Lowest (From Fault m) c → Lowest Fault c
-  lowest-all m h Accepted l = λ n p f. l n p (h n p f, f)
-  lowest-all m h (Refused why) l = (l.0.1, λ n p f. l.1 n p (h n p f, f))
+  lowest-all m h (Ok tt) l = λ n p f. l n p (h n p f, f)
+  lowest-all m h (Err why) l = (l.0.1, λ n p f. l.1 n p (h n p f, f))

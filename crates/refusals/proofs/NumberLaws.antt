@@ -1,4 +1,5 @@
 -- A refusal is its number and its place. Assumes nothing.
+use Rattle.std.specs.Prelude.{Ok, Err}
 use mathlib.Core.Path.{◌≡◌, refl, sym, ap, ◌∙◌}
 use mathlib.Core.List.{List, [], ◌∷◌}
 use Prim.Native.Nat.{ℕ, ◌<◌}
@@ -6,8 +7,7 @@ use native.Mathlib.Omega.{arith}
 use lib.ListN.{get_or}
 use Rattle.answer.specs.declared.Refusal.{Refusal}
 use Rattle.answer.specs.declared.Refusal.TheVariants as refuse
-use Rattle.answer.specs.declared.Checked.{Checked}
-use Rattle.answer.specs.declared.Checked.TheVariants.{Accepted, Refused}
+use Rattle.answer.specs.Checked.{Checked}
 use Rattle.answer.specs.Number.{number, place, number_of, place_of}
 
 -- the refusals at a place, by their numbers
@@ -76,6 +76,6 @@ pub refusal_is : (why : Refusal) (n p : ℕ) → number why ≡ n → place why 
 refusal_is why n p e f = sym (refusal-back why) ∙ ap (λ (k : ℕ). refusal_of k (place why)) e ∙ ap (refusal_of n) f
 
 -- an answer with a number is the refusal that has it
-pub answer-is : (c : Checked) (n p : ℕ) → 0 < n → number_of c ≡ n → place_of c ≡ p → c ≡ Refused (refusal_of n p)
-answer-is Accepted n p some e f = absurd (omega arith)
-answer-is (Refused why) n p some e f = ap Refused (refusal_is why n p e f)
+pub answer-is : (c : Checked) (n p : ℕ) → 0 < n → number_of c ≡ n → place_of c ≡ p → c ≡ Err (refusal_of n p)
+answer-is (Ok tt) n p some e f = absurd (omega arith)
+answer-is (Err why) n p some e f = ap Err (refusal_is why n p e f)

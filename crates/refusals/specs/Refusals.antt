@@ -1,8 +1,7 @@
 -- "Numbers answered, with places": what each number means where it is answered, in the words of the table.
-use Rattle.std.specs.Prelude.{◌≡◌, ◌⊎◌, ◌↔◌, false, List, [], ◌∷◌, map, ℕ, ◌+◌, ◌*◌, ◌-◌, ◌/◌, ◌%◌, ◌≤◌, ◌<◌, eqb, length, get_or}
+use Rattle.std.specs.Prelude.{◌≡◌, ◌⊎◌, ◌↔◌, false, List, [], ◌∷◌, map, ℕ, ◌+◌, ◌*◌, ◌-◌, ◌/◌, ◌%◌, ◌≤◌, ◌<◌, eqb, length, get_or, Ok, Err}
 use Rattle.answer.specs.declared.Refusal.{Refusal}
-use Rattle.answer.specs.declared.Checked.{Checked}
-use Rattle.answer.specs.declared.Checked.TheVariants.{Accepted, Refused}
+use Rattle.answer.specs.Checked.{Checked}
 use Rattle.answer.specs.Number.{number, place, number_of, place_of}
 use Rattle.bits.specs.Field.{num_at}
 use Rattle.bits.specs.Read.{ok, no}
@@ -20,8 +19,8 @@ use Rattle.refusals.specs.Fields.{Field, states, source, destination, tag, input
 
 -- "the lowest number first, and within it the lowest place": an answer to faults, each with a number and a place
 abbrev pub Lowest : (ℕ → ℕ → Type 0) → Checked → Type 0
-Lowest Fault Accepted = (n p : ℕ) → Fault n p → ⊥
-Lowest Fault (Refused why) =
+Lowest Fault (Ok tt) = (n p : ℕ) → Fault n p → ⊥
+Lowest Fault (Err why) =
     Fault (number why) (place why) × ((n p : ℕ) → Fault n p → (number why < n) ⊎ ((number why ≡ n) × (place why ≤ p)))
 
 -- 7 to 13, of a sheet read to its end: number n is given at place p
@@ -86,7 +85,7 @@ Numbered c n p = (number_of c ≡ n) × (place_of c ≡ p)
 
 pub record Refusals : Type 0 where
   -- a sheet that is refused in reading has one of 1 to 6, and the check's answer is that
-  pub unread : (s : List ℕ) (why : Refusal) → read_sheet s ≡ no why → Unread s (number why) (place why) × (check_sheet s ≡ Refused why)
+  pub unread : (s : List ℕ) (why : Refusal) → read_sheet s ≡ no why → Unread s (number why) (place why) × (check_sheet s ≡ Err why)
   -- and 1 to 6 are given exactly there
   pub exactly : (s : List ℕ) (n p : ℕ) → Unread s n p → Numbered (check_sheet s) n p
   -- a sheet that is read to its end is judged by the lowest fault
@@ -96,8 +95,8 @@ pub record Refusals : Type 0 where
   -- 14 is given exactly where the sheet is accepted and its code needs more bytes than the buffer has: "bytes needed"
   pub room : (s buffer : List ℕ) (bytes : ℕ)
       → Numbered (translate_into s buffer).answer.verdict 14 bytes
-      ↔ ((a : Sheet) × (end : ℕ) × (read_sheet s ≡ ok a end) × (check_sheet s ≡ Accepted) × (length buffer < bytes) × (bytes ≡ length (code_of a)))
+      ↔ ((a : Sheet) × (end : ℕ) × (read_sheet s ≡ ok a end) × (check_sheet s ≡ (Ok tt)) × (length buffer < bytes) × (bytes ≡ length (code_of a)))
   -- 18 is given exactly where the sheet is accepted and the state is n or above: "the state"
   pub no_state : (s : List ℕ) (q : State) (word elapsed state : ℕ)
       → Numbered (scan_sheet s q word elapsed).verdict 18 state
-      ↔ ((a : Sheet) × (end : ℕ) × (read_sheet s ≡ ok a end) × (check_sheet s ≡ Accepted) × (a.states ≤ state) × (state ≡ q.state))
+      ↔ ((a : Sheet) × (end : ℕ) × (read_sheet s ≡ ok a end) × (check_sheet s ≡ (Ok tt)) × (a.states ≤ state) × (state ≡ q.state))

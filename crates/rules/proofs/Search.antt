@@ -1,4 +1,5 @@
 -- What a search for the lowest place says of every place below its end. Assumes nothing.
+use Rattle.std.specs.Prelude.{Ok, Some, None}
 use mathlib.Core.Path.{◌≡◌, refl, sym}
 use mathlib.Core.Logic.{⊎_elim}
 use mathlib.Core.Bool.{Bool, true, false, ◌||◌}
@@ -7,16 +8,14 @@ use native.Mathlib.Nat.{eq-or-lt_of_le, le_of_suc-le-suc}
 use native.Mathlib.Omega.{arith}
 use Rattle.answer.specs.Lowest.{any_below, first_below, or_at, refuse_at}
 use Rattle.answer.specs.declared.Refusal.{Refusal}
-use Rattle.answer.specs.declared.Found.{Found}
-use Rattle.answer.specs.declared.Found.TheVariants.{At, Nothing}
-use Rattle.answer.specs.declared.Checked.{Checked}
-use Rattle.answer.specs.declared.Checked.TheVariants.{Accepted}
+use Rattle.std.specs.declared.option.Option.{Option}
+use Rattle.answer.specs.Checked.{Checked}
 use Rattle.answer.proofs.BoolLaws.{true-false, or-false}
 
-or-at : (f : Found) (b : Bool) (n : ℕ) → or_at f b n ≡ Nothing → (f ≡ Nothing) × (b ≡ false)
-or-at (At i) b n e = true-false cc
-or-at Nothing true n e = true-false cc
-or-at Nothing false n e = (refl, refl)
+or-at : (f : Option ℕ) (b : Bool) (n : ℕ) → or_at f b n ≡ None → (f ≡ None) × (b ≡ false)
+or-at (Some i) b n e = true-false cc
+or-at None true n e = true-false cc
+or-at None false n e = (refl, refl)
 
 module _ (p : ℕ → Bool) where
   -- a place below suc n is below n or is n
@@ -24,12 +23,12 @@ module _ (p : ℕ → Bool) where
   below {n} {i} l h e =
       ⊎_elim (λ (q : i ≡ n). rw q e) (λ (q : i < n). h i q) (eq-or-lt_of_le (le_of_suc-le-suc l))
 
-  pub first-none : (n : ℕ) → first_below p n ≡ Nothing → (i : ℕ) → i < n → p i ≡ false
+  pub first-none : (n : ℕ) → first_below p n ≡ None → (i : ℕ) → i < n → p i ≡ false
   unfolding first_below
   first-none zero e i l = absurd (omega arith)
   first-none (suc n) e i l = let q = or-at (first_below p n) (p n) n e in below l (first-none n q.0) q.1
 
-  pub none_first : (n : ℕ) → ((i : ℕ) → i < n → p i ≡ false) → first_below p n ≡ Nothing
+  pub none_first : (n : ℕ) → ((i : ℕ) → i < n → p i ≡ false) → first_below p n ≡ None
   unfolding first_below
   none_first zero h = refl
   none_first (suc n) h = rw (none_first n (λ i l. h i (omega arith)), h n (omega arith))
@@ -54,9 +53,9 @@ module _ (p : ℕ → Bool) where
       go false ih e = (n, omega arith, e)
 
 -- nothing was found, and the later answer accepts
-pub refuse-none : (why : ℕ → Refusal) (f : Found) (later : Checked) → refuse_at why f later ≡ Accepted → (f ≡ Nothing) × (later ≡ Accepted)
-refuse-none why (At i) later e = true-false cc
-refuse-none why Nothing later e = (refl, e)
+pub refuse-none : (why : ℕ → Refusal) (f : Option ℕ) (later : Checked) → refuse_at why f later ≡ (Ok tt) → (f ≡ None) × (later ≡ (Ok tt))
+refuse-none why (Some i) later e = true-false cc
+refuse-none why None later e = (refl, e)
 
-pub none-refuse : (why : ℕ → Refusal) (f : Found) (later : Checked) → f ≡ Nothing → later ≡ Accepted → refuse_at why f later ≡ Accepted
+pub none-refuse : (why : ℕ → Refusal) (f : Option ℕ) (later : Checked) → f ≡ None → later ≡ (Ok tt) → refuse_at why f later ≡ (Ok tt)
 none-refuse why f later e h = rw e h

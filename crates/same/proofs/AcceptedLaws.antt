@@ -1,4 +1,5 @@
 -- What the public definitions are on an accepted sheet.
+use Rattle.std.specs.Prelude.{Ok, Err}
 use mathlib.Core.Path.{◌≡◌, refl, ap, ◌∙◌}
 use mathlib.Core.Bool.{cond}
 use mathlib.Core.List.{List, ◌++◌}
@@ -10,8 +11,7 @@ use lib.ListN.{length, take, drop}
 use lib.Seq.{sets, sets-eq, take-append_seam}
 use Rattle.answer.specs.declared.Refusal.{Refusal}
 use Rattle.answer.specs.declared.Refusal.TheVariants.{Room}
-use Rattle.answer.specs.declared.Checked.{Checked}
-use Rattle.answer.specs.declared.Checked.TheVariants.{Accepted, Refused}
+use Rattle.answer.specs.Checked.{Checked}
 use Rattle.bits.specs.Read.{ok}
 use Rattle.reader.specs.Sheet.{Sheet}
 use Rattle.reader.specs.Reading.{read_sheet}
@@ -21,14 +21,14 @@ use Rattle.scan.specs.Scan.{accepted, refused, scan_of, cold_of, scan_sheet, col
 use Rattle.translate.specs.Writing.{code_of, unwritten, written_with, translate_into, cold_record, no_record, cold_run}
 
 -- no answer is both
-pub accepted-refused : {c : Checked} {why : Refusal} → c ≡ Accepted → c ≡ Refused why → ⊥
+pub accepted-refused : {c : Checked} {why : Refusal} → c ≡ (Ok tt) → c ≡ Err why → ⊥
 accepted-refused e f = let z : ◌≡◌ {A = ℕ} 0 1 = cc in omega arith
 
-pub refused-is : {c d : Refusal} → Refused c ≡ Refused d → c ≡ d
+pub refused-is : {c d : Refusal} → Err c ≡ Err d → c ≡ d
 refused-is e = cc
 
-module _ (s : List ℕ) (a : Sheet) (end : ℕ) (read : read_sheet s ≡ ok a end) (acc : check_sheet s ≡ Accepted) where
-  judged : judge a ≡ Accepted
+module _ (s : List ℕ) (a : Sheet) (end : ℕ) (read : read_sheet s ≡ ok a end) (acc : check_sheet s ≡ (Ok tt)) where
+  judged : judge a ≡ (Ok tt)
   unfolding check_sheet
   judged = rw read at acc
 
@@ -45,9 +45,9 @@ module _ (s : List ℕ) (a : Sheet) (end : ℕ) (read : read_sheet s ≡ ok a en
   unfolding cold_scan
   cold-scan-is = with-sheet (refused zeros) (λ b. accepted (cold_of b))
 
-  pub cold-run-is : cold_run s ≡ record { verdict = Accepted; «record» = cold_record a }
+  pub cold-run-is : cold_run s ≡ record { verdict = (Ok tt); «record» = cold_record a }
   unfolding cold_run
-  cold-run-is = with-sheet no_record (λ b. record { verdict = Accepted; «record» = cold_record b })
+  cold-run-is = with-sheet no_record (λ b. record { verdict = (Ok tt); «record» = cold_record b })
 
   -- the translator, with room and without
   pub translate-is : (buffer : List ℕ)

@@ -1,4 +1,5 @@
 -- The check of code on the pieces: faults word by word, depths, and a fact of every word. Assumes nothing.
+use Rattle.std.specs.Prelude.{None}
 use mathlib.Core.Path.{◌≡◌, refl, sym, ap, ◌∙◌}
 use mathlib.Core.Bool.{Bool, true, false, ◌||◌}
 use mathlib.Core.List.{List, [], ◌∷◌, ◌++◌, append_assoc}
@@ -8,8 +9,7 @@ use native.Mathlib.Nat.{add-zero, suc-add, zero-add}
 use borrow.Author.Tests.{le-ltb, lt-ltb, lt-leb, ne_eqb}
 use lib.Dec.{ltb}
 use lib.ListN.{length, length-append}
-use Rattle.answer.specs.declared.Found.{Found}
-use Rattle.answer.specs.declared.Found.TheVariants.{Nothing}
+use Rattle.std.specs.declared.option.Option.{Option}
 use Rattle.condition.specs.Cond.{Cond, inp, neg, conj, disj, depth, word_count}
 use Rattle.reader.specs.Sheet.{Transition}
 use Rattle.format.specs.Fields.{InputsBelow, Fields}
@@ -28,7 +28,7 @@ use Rattle.same.proofs.RunLaws.{OneWord, state-length}
 abbrev pub Passes : ℕ → List Word → Type 0
 Passes n g = (pc : ℕ) (ys : List Word) → first_among n pc 0 (g ++ ys) ≡ first_among n (pc + length g) 0 ys
 
-pub pass : {b : Bool} (pc : ℕ) (later : Found) → b ≡ false → here_or b pc later ≡ later
+pub pass : {b : Bool} (pc : ℕ) (later : Option ℕ) → b ≡ false → here_or b pc later ≡ later
 pass pc later e = rw e refl
 
 pub neither : {b c : Bool} → b ≡ false → c ≡ false → b || c ≡ false
@@ -233,7 +233,7 @@ module _ (l end : ℕ) (P : Word → Type 0) (rows : Rows l end P) where
       (each_append P last (JMP end ∷ state_blocks last end rs) g (rows.done, each-states last g rs h.1))
 
 -- no jump of these lands where a parenthesis is open
-pub no-landing : (code : List Word) (pc : ℕ) (is : List Word) → Each (λ i. lands_open code i ≡ false) is → first_landing code pc is ≡ Nothing
+pub no-landing : (code : List Word) (pc : ℕ) (is : List Word) → Each (λ i. lands_open code i ≡ false) is → first_landing code pc is ≡ None
 unfolding first_landing
 no-landing code pc [] h = refl
 no-landing code pc (i ∷ is) h = rw h.0 (no-landing code (suc pc) is h.1)

@@ -1,4 +1,5 @@
 -- The translation passes the check of code. Assumes nothing.
+use Rattle.std.specs.Prelude.{Ok, None}
 use mathlib.Core.Path.{◌≡◌, refl, sym, ap, ◌∙◌}
 use mathlib.Core.Bool.{Bool, true, false}
 use mathlib.Core.List.{List, [], ◌∷◌, ◌++◌, append_assoc}
@@ -7,8 +8,6 @@ use native.Mathlib.Omega.{arith}
 use native.Mathlib.Nat.{add-zero, zero-add}
 use lib.Dec.{ltb}
 use lib.ListN.{length}
-use Rattle.answer.specs.declared.Found.TheVariants.{Nothing}
-use Rattle.answer.specs.declared.Checked.TheVariants.{Accepted}
 use Rattle.reader.specs.Sheet.{Transition, Sheet}
 use Rattle.format.specs.Fields.{Fields}
 use Rattle.rules.specs.Rules.{Rules}
@@ -108,7 +107,7 @@ module _ (a : Sheet) (rules : Rules a) where
   gates-pass n (t ∷ ts) i = (wait-passes n t.wait, gates-pass n ts (i + wait_count t.wait))
 
   -- no word is at fault
-  words-ok : (n : ℕ) → n ≡ suc (end_at a) → first_among n 0 0 (translate a) ≡ Nothing
+  words-ok : (n : ℕ) → n ≡ suc (end_at a) → first_among n 0 0 (translate a) ≡ None
   unfolding first_among faulty opens
   words-ok n e =
       ap (first_among n 0 0) (translate-is a)
@@ -205,12 +204,12 @@ module _ (a : Sheet) (rules : Rules a) where
       (JMP (end_at a) ∷ state_blocks (TRES ∷ []) (end_at a) a.rows) (END ∷ []))
 
   -- the translation is accepted
-  pub check-code : check_code (code_of a) ≡ Accepted
+  pub check-code : check_code (code_of a) ≡ (Ok tt)
   unfolding code_of
   check-code =
       let long : length (translate a) ≡ suc (end_at a) = code_end a rules.rows rules.row in
       let few : length (translate a) ≤ 8192 = omega (arith, end-words a rules) in
-      let sound : first_among (length (translate a)) 0 0 (translate a) ≡ Nothing = words-ok (length (translate a)) long in
+      let sound : first_among (length (translate a)) 0 0 (translate a) ≡ None = words-ok (length (translate a)) long in
       let lands = no-landing (translate a) 0 (translate a) lands-ok in
       rw front-is
       (passes front (rw front-is at fit) (rw front-is at few) (rw front-is at sound) (rw front-is at lands))

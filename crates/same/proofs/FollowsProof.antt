@@ -1,4 +1,5 @@
 -- What holds after any scans, for a sheet that keeps the rules. Assumes nothing.
+use Rattle.std.specs.Prelude.{Ok}
 use mathlib.Core.Path.{◌≡◌, refl, sym, ap, ◌∙◌}
 use mathlib.Core.Bool.{cond}
 use mathlib.Core.List.{List, [], ◌∷◌}
@@ -7,7 +8,6 @@ use native.Mathlib.Omega.{arith}
 use borrow.Author.Tests.{eq-eqb, ne_eqb, le-leb}
 use lib.Dec.{eqb}
 use lib.ListN.{length}
-use Rattle.answer.specs.declared.Checked.TheVariants.{Accepted}
 use Rattle.bits.specs.Read.{ok}
 use Rattle.bits.specs.Word.{get_bit}
 use Rattle.bits.proofs.WordLaws.{bit-pow}
@@ -38,11 +38,11 @@ use Rattle.same.proofs.SameProof.{Shows, shows-fits, scan-same, scan-shows}
 
 module _ (a : Sheet) (rules : Rules a) where
   -- a scan of the code's bytes
-  pub run_is : (q : State) → Fits a q → (x e : ℕ) → run_code (code_of a) (embed q) x e ≡ record { verdict = Accepted; «record» = embed (scan_of a q x e) }
+  pub run_is : (q : State) → Fits a q → (x e : ℕ) → run_code (code_of a) (embed q) x e ≡ record { verdict = (Ok tt); «record» = embed (scan_of a q x e) }
   unfolding code_of
   run_is q g x e =
       runs (translate a) (fit a rules) (check-code a rules) (embed q) x e
-      ∙ ap (λ (o : Out). ran_with Accepted (record_of o.mach)) (scan-same a rules q g x e)
+      ∙ ap (λ (o : Out). ran_with (Ok tt) (record_of o.mach)) (scan-same a rules q g x e)
 
   -- a scan changes the state or adds to the clock
   clock-step : (q p : State) (x e since : ℕ) → q.clock ≡ min since 16777215 → Moves a q x (onward q.clock e) p
@@ -58,7 +58,7 @@ module _ (a : Sheet) (rules : Rules a) where
       let c : p.clock ≡ onward q.clock e = ap (λ v. v.clock) r in
       rw (eq-eqb p.state q.state (ap (λ v. v.state) r)) (omega arith)
 
-  module _ (s : List ℕ) (end : ℕ) (read : read_sheet s ≡ ok a end) (acc : check_sheet s ≡ Accepted) where
+  module _ (s : List ℕ) (end : ℕ) (read : read_sheet s ≡ ok a end) (acc : check_sheet s ≡ (Ok tt)) where
     -- where the two stand after some scans
     record Stands (ticks : List Tick) : Type 0 where
       good : Shows a rules (ref_after s ticks)

@@ -1,4 +1,5 @@
 -- Laws of a scan on a sheet that was opened. Assumes nothing.
+use Rattle.std.specs.Prelude.{Err}
 use mathlib.Core.Path.{◌≡◌, refl, sym, ◌∙◌, subst}
 use mathlib.Core.Bool.{true}
 use mathlib.Core.List.{List}
@@ -8,7 +9,6 @@ use borrow.Author.Tests.{lt-ltb, le-ltb}
 use lib.ListN.{get_or}
 use Rattle.answer.specs.declared.Refusal.{Refusal}
 use Rattle.answer.specs.declared.Refusal.TheVariants.{NoState}
-use Rattle.answer.specs.declared.Checked.TheVariants.{Refused}
 use Rattle.bits.specs.Word.{word_of}
 use Rattle.reader.specs.Sheet.{Transition, row_of, transition_of}
 use Rattle.reader.specs.inside.Packing.{arrow_at}
@@ -28,11 +28,11 @@ use Rattle.scan.proofs.AllLaws.{all_of}
 use Rattle.scan.proofs.ChoiceLaws.{OnChoice, best-on}
 
 -- a refused sheet
-pub scan-refused : (s : List ℕ) (why : Refusal) (q : State) (word elapsed : ℕ) → check_sheet s ≡ Refused why → scan_sheet s q word elapsed ≡ refused q why
+pub scan-refused : (s : List ℕ) (why : Refusal) (q : State) (word elapsed : ℕ) → check_sheet s ≡ Err why → scan_sheet s q word elapsed ≡ refused q why
 unfolding scan_sheet
 scan-refused s why q word elapsed e = with-refused s why (refused q) _ e
 
-pub cold-refused : (s : List ℕ) (why : Refusal) → check_sheet s ≡ Refused why → cold_scan s ≡ refused zeros why
+pub cold-refused : (s : List ℕ) (why : Refusal) → check_sheet s ≡ Err why → cold_scan s ≡ refused zeros why
 unfolding cold_scan
 cold-refused s why e = with-refused s why (refused zeros) _ e
 

@@ -1,9 +1,8 @@
 -- "One scan", and the cold start, from the sheet.
-use Rattle.std.specs.Prelude.{ℕ, ◌≡◌, Bool, ◌&&◌, cond, List, [], ◌∷◌, eqb, leb, ltb}
+use Rattle.std.specs.Prelude.{ℕ, ◌≡◌, Bool, ◌&&◌, cond, List, [], ◌∷◌, eqb, leb, ltb, Ok, Err}
 use Rattle.answer.specs.declared.Refusal.{Refusal}
 use Rattle.answer.specs.declared.Refusal.TheVariants.{NoState}
-use Rattle.answer.specs.declared.Checked.{Checked}
-use Rattle.answer.specs.declared.Checked.TheVariants.{Accepted, Refused}
+use Rattle.answer.specs.Checked.{Checked}
 use Rattle.bits.specs.Word.{word_of}
 use Rattle.clock.specs.Onward.{onward}
 use Rattle.condition.specs.Cond.{eval}
@@ -59,11 +58,11 @@ abbrev pub scanned_with : Checked → State → Scanned
 scanned_with verdict q = record { verdict = verdict; «record» = q }
 
 abbrev pub accepted : State → Scanned
-accepted q = scanned_with Accepted q
+accepted q = scanned_with (Ok tt) q
 
 -- "A refused scan returns the record it was given"
 abbrev pub refused : State → Refusal → Scanned
-refused q why = scanned_with (Refused why) q
+refused q why = scanned_with (Err why) q
 
 -- 18 NO-STATE: "the reference scan is given a state n or above", at "the state"
 unfoldable pub scan_sheet : List ℕ → State → ℕ → ℕ → Scanned

@@ -142,12 +142,12 @@ fn scan_opened(
 {
     let verdict = o.verdict;
     match verdict {
-        Checked::Refused(why) => scanned_with(Checked::Refused(why), record),
-        Checked::Accepted => {
+        Err(why) => scanned_with(Err(why), record),
+        Ok(()) => {
             let d = o.decoded;
             let active = record.state;
             if d.states <= active as u32 {
-                return scanned_with(Checked::Refused(Refusal::NoState(active as usize)), record);
+                return scanned_with(Err(Refusal::NoState(active as usize)), record);
             }
             let clock = clock::bring_forward(record.clock, elapsed);
             let p = choose(
@@ -159,7 +159,7 @@ fn scan_opened(
                 inputs as u32,
                 clock,
             );
-            scanned_with(Checked::Accepted, moved(rows, record, clock, p))
+            scanned_with(Ok(()), moved(rows, record, clock, p))
         }
     }
 }
@@ -183,7 +183,7 @@ pub fn cold_scan(sheet: &[u8]) -> Scanned
     let o = sheet::open_sheet(sheet, &mut rows, &mut arrows);
     let verdict = o.verdict;
     match verdict {
-        Checked::Refused(why) => scanned_with(Checked::Refused(why), state_with(0, 0, 0)),
-        Checked::Accepted => scanned_with(Checked::Accepted, state_with(0, rows[0], 0)),
+        Err(why) => scanned_with(Err(why), state_with(0, 0, 0)),
+        Ok(()) => scanned_with(Ok(()), state_with(0, rows[0], 0)),
     }
 }

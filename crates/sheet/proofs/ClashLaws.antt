@@ -1,4 +1,5 @@
 -- Laws of the nested search for the first clash, which goes by keys: PAIR and RANK share them. Assumes nothing.
+use Rattle.std.specs.Prelude.{Some, None}
 use mathlib.Core.Path.{◌≡◌, refl, ◌∙◌}
 use mathlib.Core.Logic.{◌≢◌, ⊎_elim}
 use mathlib.Core.Bool.{Bool, true, false, ◌&&◌}
@@ -12,7 +13,6 @@ use lib.Dec.{eqb}
 use lib.ListN.{length, get_or, set}
 use lib.Seq.{get_or-set_same, get_or-set_other}
 use Rattle.answer.specs.Lowest.{any_below, first_below}
-use Rattle.answer.specs.declared.Found.TheVariants.{At, Nothing}
 use Rattle.answer.proofs.Laws.{any-more, any-hit, any_same, first_more, first-hit, first-same}
 use Rattle.reader.specs.inside.Packing.{unpack, arrow_at}
 use Rattle.sheet.specs.inside.Arrows.{besides, clash_arrows, clash_below, first_clash, key_of, Keys, alike_below, first_alike}
@@ -21,7 +21,7 @@ use Rattle.sheet.specs.declared.Clash.TheVariants as clash
 use Rattle.sheet.proofs.SearchLaws.{search-end}
 
 module _ (keys : List ℕ) where
-  pub clash-start : first_alike keys 0 ≡ Nothing
+  pub clash-start : first_alike keys 0 ≡ None
   unfolding first_alike first_below
   clash-start = refl
 
@@ -37,20 +37,20 @@ module _ (keys : List ℕ) where
       → Apart later (earlier + 1)
   apart_more later earlier l h e = (omega arith, any-more (λ i. eqb (get_or keys i 0) (get_or keys later 0)) earlier h.1 e)
 
-  pub clash-more : (later earlier : ℕ) → later ≤ earlier → first_alike keys later ≡ Nothing → Apart later earlier
-      → first_alike keys (later + 1) ≡ Nothing
+  pub clash-more : (later earlier : ℕ) → later ≤ earlier → first_alike keys later ≡ None → Apart later earlier
+      → first_alike keys (later + 1) ≡ None
   unfolding first_alike
   clash-more later earlier l h a =
       let e : earlier ≡ later = omega arith in
       first_more (λ j. alike_below keys j j) later h (rw e at a.1)
 
-  pub clash-hit : (later earlier m : ℕ) → earlier < later → later < m → first_alike keys later ≡ Nothing
-      → eqb (get_or keys earlier 0) (get_or keys later 0) ≡ true → first_alike keys m ≡ At later
+  pub clash-hit : (later earlier m : ℕ) → earlier < later → later < m → first_alike keys later ≡ None
+      → eqb (get_or keys earlier 0) (get_or keys later 0) ≡ true → first_alike keys m ≡ Some later
   unfolding first_alike
   clash-hit later earlier m l b h e =
       first-hit (λ j. alike_below keys j j) later m b h (any-hit (λ i. eqb (get_or keys i 0) (get_or keys later 0)) earlier later l e)
 
-  pub clash-end : (later m : ℕ) → m ≤ later → first_alike keys later ≡ Nothing → first_alike keys m ≡ Nothing
+  pub clash-end : (later m : ℕ) → m ≤ later → first_alike keys later ≡ None → first_alike keys m ≡ None
   unfolding first_alike
   clash-end later m l h = search-end (λ j. alike_below keys j j) m later l h
 

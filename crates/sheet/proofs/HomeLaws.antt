@@ -1,4 +1,5 @@
 -- Laws of the word whose bit s says that state s has a transition to 0. Assumes nothing.
+use Rattle.std.specs.Prelude.{None}
 use mathlib.Core.Path.{◌≡◌, refl, sym, ◌∙◌}
 use mathlib.Core.Bool.{Bool, true, false, not, ◌&&◌, ◌||◌, and-true, and-false, or-true, or-false}
 use mathlib.Core.List.{List}
@@ -8,7 +9,6 @@ use native.Mathlib.Omega.{arith}
 use lib.Dec.{ltb, eqb, eqb-zero-suc, eqb-suc-zero, eqb-suc-suc}
 use borrow.Author.Tests.{ltb-true, ltb-false, lt-ltb, ne_eqb, eq-eqb}
 use Rattle.answer.specs.Lowest.{any_below, first_below}
-use Rattle.answer.specs.declared.Found.TheVariants.{Nothing}
 use Rattle.answer.proofs.BoolLaws.{and-true as both}
 use Rattle.answer.proofs.Laws.{first-same}
 use Rattle.bits.specs.Word.{get_bit, put_bit}
@@ -69,6 +69,6 @@ module _ (arrows : List ℕ) where
 pub bit-decides : (word s : ℕ) → 1 ≤ s → lacks_bit word s ≡ not (get_bit word s)
 bit-decides word s l = rw (lt-ltb 0 s l)
 
-pub past-idle : (word : ℕ) → first_below (lacks_bit word) 1 ≡ Nothing
+pub past-idle : (word : ℕ) → first_below (lacks_bit word) 1 ≡ None
 unfolding first_below
 past-idle word = refl

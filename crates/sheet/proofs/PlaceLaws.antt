@@ -1,4 +1,5 @@
 -- How large the place of a refused sheet can be, and that of what goes on with a sheet. Assumes nothing.
+use Rattle.std.specs.Prelude.{Ok, Err}
 use mathlib.Core.Path.{◌≡◌, refl}
 use mathlib.Core.List.{List}
 use Prim.Native.Nat.{ℕ, ◌≤◌}
@@ -6,8 +7,7 @@ use native.Mathlib.Omega.{arith}
 use Rattle.answer.specs.Number.{place, place_of, farthest}
 use Rattle.answer.specs.declared.Refusal.{Refusal}
 use Rattle.answer.specs.declared.Refusal.TheVariants.{Loop, Pair, Rank, NoHome, HomeForm, Gate, Activity}
-use Rattle.answer.specs.declared.Checked.{Checked}
-use Rattle.answer.specs.declared.Checked.TheVariants.{Accepted, Refused}
+use Rattle.answer.specs.Checked.{Checked}
 use Rattle.answer.proofs.PlaceLaws.{search-fits}
 use Rattle.bits.specs.Read.{Ans, ok, no}
 use Rattle.reader.specs.Sheet.{Sheet, count}
@@ -42,8 +42,8 @@ place-fits s = go (read_sheet s) refl
 -- what goes on with a sheet: what holds of every refusal with such a place, and of every sheet that was read, holds
 module _ {B : Type 0} (P : B → Type 0) (refuse : Refusal → B) (h : (why : Refusal) → place why ≤ farthest → P (refuse why)) where
   judged-holds : (v : Checked) (b : B) → place_of v ≤ 128 → P b → P (judged_or v refuse b)
-  judged-holds Accepted b l p = p
-  judged-holds (Refused why) b l p = h why (omega arith)
+  judged-holds (Ok tt) b l p = p
+  judged-holds (Err why) b l p = h why (omega arith)
 
   pub with-holds : (s : List ℕ) (go : Sheet → B) → ((a : Sheet) (end : ℕ) → read_sheet s ≡ ok a end → P (go a)) → P (with_sheet s refuse go)
   unfolding with_sheet

@@ -1,40 +1,40 @@
 -- Laws of going on with a sheet: by its refusal, or by the sheet that is accepted. Assumes nothing.
+use Rattle.std.specs.Prelude.{Ok, Err}
 use Prim.Native.Nat.{ℕ}
 use mathlib.Core.Path.{◌≡◌, ap}
 use mathlib.Core.List.{List}
 use native.Mathlib.Omega.{arith}
 use Rattle.answer.specs.declared.Refusal.{Refusal}
-use Rattle.answer.specs.declared.Checked.{Checked}
-use Rattle.answer.specs.declared.Checked.TheVariants.{Accepted, Refused}
+use Rattle.answer.specs.Checked.{Checked}
 use Rattle.bits.specs.Read.{Ans, ok, no}
 use Rattle.reader.specs.Sheet.{Sheet}
 use Rattle.reader.specs.Reading.{read_sheet}
 use Rattle.sheet.specs.Judging.{judge, judge_read, check_sheet, judged_or, read_or, with_sheet}
 
-refused-is : {q r : Refusal} → Refused q ≡ Refused r → q ≡ r
+refused-is : {q r : Refusal} → Err q ≡ Err r → q ≡ r
 refused-is h = cc
 
-pub accepted-refused : {A : Type 0} {r : Refusal} → Accepted ≡ Refused r → A
+pub accepted-refused : {A : Type 0} {r : Refusal} → (Ok tt) ≡ Err r → A
 accepted-refused h = let z : ◌≡◌ {A = ℕ} 0 1 = cc in absurd (omega arith)
 
-judged-refused : {B : Type 0} (v : Checked) (why : Refusal) (refuse : Refusal → B) (b : B) → v ≡ Refused why → judged_or v refuse b ≡ refuse why
-judged-refused Accepted why refuse b e = accepted-refused e
-judged-refused (Refused q) why refuse b e = ap refuse (refused-is e)
+judged-refused : {B : Type 0} (v : Checked) (why : Refusal) (refuse : Refusal → B) (b : B) → v ≡ Err why → judged_or v refuse b ≡ refuse why
+judged-refused (Ok tt) why refuse b e = accepted-refused e
+judged-refused (Err q) why refuse b e = ap refuse (refused-is e)
 
-read-refused : {B : Type 0} (x : Ans Sheet) (why : Refusal) (refuse : Refusal → B) (go : Sheet → B) → judge_read x ≡ Refused why
+read-refused : {B : Type 0} (x : Ans Sheet) (why : Refusal) (refuse : Refusal → B) (go : Sheet → B) → judge_read x ≡ Err why
     → read_or x refuse go ≡ refuse why
 read-refused (ok a end) why refuse go e = judged-refused (judge a) why refuse (go a) e
 read-refused (no q) why refuse go e = ap refuse (refused-is e)
 
 -- a refused sheet is gone on with by its refusal
-pub with-refused : {B : Type 0} (s : List ℕ) (why : Refusal) (refuse : Refusal → B) (go : Sheet → B) → check_sheet s ≡ Refused why
+pub with-refused : {B : Type 0} (s : List ℕ) (why : Refusal) (refuse : Refusal → B) (go : Sheet → B) → check_sheet s ≡ Err why
     → with_sheet s refuse go ≡ refuse why
 unfolding check_sheet with_sheet
 with-refused s why refuse go e = read-refused (read_sheet s) why refuse go e
 
 -- an accepted one by the sheet that its bytes are
 pub with-accepted : {B : Type 0} (s : List ℕ) (a : Sheet) (end : ℕ) (refuse : Refusal → B) (go : Sheet → B) → read_sheet s ≡ ok a end
-    → judge a ≡ Accepted → with_sheet s refuse go ≡ go a
+    → judge a ≡ (Ok tt) → with_sheet s refuse go ≡ go a
 unfolding with_sheet
 with-accepted s a end refuse go e j = rw (e, j)
 
@@ -43,6 +43,6 @@ pub check-read : (s : List ℕ) (a : Sheet) (end : ℕ) → read_sheet s ≡ ok 
 unfolding check_sheet
 check-read s a end e = rw e
 
-pub check-unread : (s : List ℕ) (why : Refusal) → read_sheet s ≡ no why → check_sheet s ≡ Refused why
+pub check-unread : (s : List ℕ) (why : Refusal) → read_sheet s ≡ no why → check_sheet s ≡ Err why
 unfolding check_sheet
 check-unread s why e = rw e

@@ -1,9 +1,8 @@
 -- "Numbers 7 to 13 follow on a sheet read to its end, the lowest number first, and within it the lowest place."
-use Rattle.std.specs.Prelude.{ℕ, ◌≡◌, Bool, true, false, not, ◌&&◌, List, get_or, ltb, eqb}
+use Rattle.std.specs.Prelude.{ℕ, ◌≡◌, Bool, true, false, not, ◌&&◌, List, get_or, ltb, eqb, Ok, Err}
 use Rattle.answer.specs.declared.Refusal.{Refusal}
 use Rattle.answer.specs.declared.Refusal.TheVariants.{Loop, Pair, Rank, NoHome, HomeForm, Gate, Activity}
-use Rattle.answer.specs.declared.Checked.{Checked}
-use Rattle.answer.specs.declared.Checked.TheVariants.{Accepted, Refused}
+use Rattle.answer.specs.Checked.{Checked}
 use Rattle.answer.specs.Lowest.{any_below, first_below, refuse_at}
 use Rattle.bits.specs.Read.{Ans, ok, no}
 use Rattle.condition.specs.Cond.{is_off, is_gated}
@@ -51,7 +50,7 @@ wrong_activity a s = differs (get_or (row_of a s) 0 false) (eqb s 0)
 
 unfoldable pub judge : Sheet → Checked
 judge a =
-    let thirteen = refuse_at Activity (first_below (wrong_activity a) a.states) Accepted in
+    let thirteen = refuse_at Activity (first_below (wrong_activity a) a.states) (Ok tt) in
     let twelve = refuse_at Gate (first_below (λ i. lacks_gate (transition_of a i)) (count a)) thirteen in
     let eleven = refuse_at HomeForm (first_below (λ i. lacks_home_form (transition_of a i)) (count a)) twelve in
     let ten = refuse_at NoHome (first_below (lacks_home a) a.states) eleven in
@@ -62,15 +61,15 @@ judge a =
 -- a sheet that is refused in reading, or else judged
 abbrev pub judge_read : Ans Sheet → Checked
 judge_read (ok a end) = judge a
-judge_read (no why) = Refused why
+judge_read (no why) = Err why
 
 unfoldable pub check_sheet : List ℕ → Checked
 check_sheet s = judge_read (read_sheet s)
 
 -- What is done with a sheet: `go` with the sheet that the bytes are, where it is accepted; else `refuse` with the refusal.
 abbrev pub judged_or : {B : Type 0} → Checked → (Refusal → B) → B → B
-judged_or Accepted refuse b = b
-judged_or (Refused why) refuse b = refuse why
+judged_or (Ok tt) refuse b = b
+judged_or (Err why) refuse b = refuse why
 
 abbrev pub read_or : {B : Type 0} → Ans Sheet → (Refusal → B) → (Sheet → B) → B
 read_or (ok a end) refuse go = judged_or (judge a) refuse (go a)

@@ -9,7 +9,7 @@ ghost use Rattle.sheet.specs.Judging.{judge, ChecksSheet};
 ghost use Rattle.sheet.specs.inside.Arrows.{breaks_arrow, first_break, key_of, Keys, first_alike, Homes, lacks_home_arrow, activity_row, judge_forms};
 ghost use Rattle.sheet.specs.inside.Opening.{Opens};
 
-use answer::{Checked, Found, Refusal};
+use answer::{Checked, Refusal};
 use reader::{Arrow, Decoded, How};
 
 // What a sheet's bytes are found to be: the verdict, and the decoded copy where it accepts.
@@ -49,7 +49,7 @@ fn breaks(rule: Rule, t: Arrow) -> bool
 }
 
 // The first transition that breaks the rule.
-fn first_arrow(arrows: &[u64; 128], m: usize, rule: Rule) -> Found
+fn first_arrow(arrows: &[u64; 128], m: usize, rule: Rule) -> Option<usize>
     requires { m ≤ 128 }
     ensures { result ≡ first_break rule arrows.now m }
 {
@@ -57,11 +57,11 @@ fn first_arrow(arrows: &[u64; 128], m: usize, rule: Rule) -> Found
     while i < m {
         let t = reader::unpacked(arrows[i]);
         if breaks(rule, t) {
-            return Found::At(i);
+            return Some(i);
         }
         i += 1;
     }
-    Found::Nothing
+    None
 }
 
 // A transition's key: two of them are equal where the sources are and, for PAIR the destinations, for RANK the priorities.
@@ -91,20 +91,20 @@ fn keys_of(arrows: &[u64; 128], m: usize, clash: Clash) -> [u16; 128]
 }
 
 // 8 PAIR and 9 RANK: the first transition with the key of an earlier one.
-fn first_clash(keys: &[u16; 128], m: usize) -> Found
+fn first_clash(keys: &[u16; 128], m: usize) -> Option<usize>
     requires { m ≤ 128 }
     ensures { result ≡ first_alike keys.now m }
 {
     let mut later: usize = 0;
     let found = 'clash: loop {
         if m <= later {
-            break Found::Nothing;
+            break None;
         }
         let key = keys[later];
         let mut earlier: usize = 0;
         while earlier < later {
             if keys[earlier] == key {
-                break 'clash Found::At(later);
+                break 'clash Some(later);
             }
             earlier += 1;
         }
@@ -131,7 +131,7 @@ fn homes(arrows: &[u64; 128], m: usize) -> u32
 }
 
 // 10 NO-HOME: the first state other than 0 without a transition to 0.
-fn first_no_home(arrows: &[u64; 128], m: usize, n: usize) -> Found
+fn first_no_home(arrows: &[u64; 128], m: usize, n: usize) -> Option<usize>
     requires { (m ≤ 128) × (n ≤ 32) }
     ensures { result ≡ first_below (lacks_home_arrow arrows.now m) n }
 {
@@ -139,15 +139,15 @@ fn first_no_home(arrows: &[u64; 128], m: usize, n: usize) -> Found
     let mut s: usize = 1;
     while s < n {
         if !bits::get_bit(word, s as u32) {
-            return Found::At(s);
+            return Some(s);
         }
         s += 1;
     }
-    Found::Nothing
+    None
 }
 
 // 13 ACTIVITY: the first state whose output 0 is not whether it is state 0.
-fn first_activity(rows: &[u16; 32], n: usize) -> Found
+fn first_activity(rows: &[u16; 32], n: usize) -> Option<usize>
     requires { n ≤ 32 }
     ensures { result ≡ first_below (activity_row rows.now) n }
 {
@@ -155,11 +155,11 @@ fn first_activity(rows: &[u16; 32], n: usize) -> Found
     while s < n {
         let active = rows[s] % 2 == 1;
         if active != (s == 0) {
-            return Found::At(s);
+            return Some(s);
         }
         s += 1;
     }
-    Found::Nothing
+    None
 }
 
 // The numbers 10 to 13, lowest first.
@@ -168,20 +168,20 @@ fn judge_forms(arrows: &[u64; 128], m: usize, rows: &[u16; 32], n: usize) -> Che
     ensures { result ≡ judge_forms arrows.now m rows.now n }
 {
     let no_home = first_no_home(arrows, m, n);
-    if let Found::At(s) = no_home {
-        return Checked::Refused(Refusal::NoHome(s));
+    if let Some(s) = no_home {
+        return Err(Refusal::NoHome(s));
     }
     let home_form = first_arrow(arrows, m, Rule::HomeForm);
-    if let Found::At(i) = home_form {
-        return Checked::Refused(Refusal::HomeForm(i));
+    if let Some(i) = home_form {
+        return Err(Refusal::HomeForm(i));
     }
     let gate = first_arrow(arrows, m, Rule::Gate);
-    if let Found::At(i) = gate {
-        return Checked::Refused(Refusal::Gate(i));
+    if let Some(i) = gate {
+        return Err(Refusal::Gate(i));
     }
     match first_activity(rows, n) {
-        Found::At(s) => Checked::Refused(Refusal::Activity(s)),
-        Found::Nothing => Checked::Accepted,
+        Some(s) => Err(Refusal::Activity(s)),
+        None => Ok(()),
     }
 }
 
@@ -192,18 +192,18 @@ fn judge_decoded(d: Decoded, rows: &[u16; 32], arrows: &[u64; 128]) -> Checked
 {
     let m = d.transitions;
     let to_itself = first_arrow(arrows, m, Rule::Loop);
-    if let Found::At(i) = to_itself {
-        return Checked::Refused(Refusal::Loop(i));
+    if let Some(i) = to_itself {
+        return Err(Refusal::Loop(i));
     }
     let pairs = keys_of(arrows, m, Clash::Pair);
     let pair = first_clash(&pairs, m);
-    if let Found::At(i) = pair {
-        return Checked::Refused(Refusal::Pair(i));
+    if let Some(i) = pair {
+        return Err(Refusal::Pair(i));
     }
     let ranks = keys_of(arrows, m, Clash::Rank);
     let rank = first_clash(&ranks, m);
-    if let Found::At(i) = rank {
-        return Checked::Refused(Refusal::Rank(i));
+    if let Some(i) = rank {
+        return Err(Refusal::Rank(i));
     }
     judge_forms(arrows, m, rows, d.states as usize)
 }
@@ -217,7 +217,7 @@ pub fn open_sheet(sheet: &[u8], rows: &mut [u16; 32], arrows: &mut [u64; 128]) -
     let how = d.how;
     match how {
         How::Bad(why) => Opened {
-            verdict: Checked::Refused(why),
+            verdict: Err(why),
             decoded: d,
         },
         How::Done(_) => {

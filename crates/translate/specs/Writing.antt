@@ -1,9 +1,8 @@
 -- What a translation answers and leaves in the buffer, and the runner's cold start.
-use Rattle.std.specs.Prelude.{◌≡◌, cond, List, ℕ, leb, length}
+use Rattle.std.specs.Prelude.{◌≡◌, cond, List, ℕ, leb, length, Ok, Err}
 use Rattle.std.proofs.lemmas.List.Edits.{sets}
 use Rattle.answer.specs.declared.Refusal.{Refusal}
 use Rattle.answer.specs.declared.Refusal.TheVariants.{Room}
-use Rattle.answer.specs.declared.Checked.TheVariants.{Accepted, Refused}
 use Rattle.reader.specs.Sheet.{Sheet}
 use Rattle.sheet.specs.Judging.{with_sheet}
 use Rattle.scan.specs.Scan.{outputs_of}
@@ -25,11 +24,11 @@ pub record Written : Type 0 where
 
 -- "a refused translation writes no byte"
 abbrev pub unwritten : List ℕ → Refusal → Written
-unwritten buffer why = record { answer = record { verdict = Refused why; length = 0 }; buffer = buffer }
+unwritten buffer why = record { answer = record { verdict = Err why; length = 0 }; buffer = buffer }
 
--- "Accepted translation writes the code from the buffer's start and no byte after it, and returns its length in bytes."
+-- "(Ok tt) translation writes the code from the buffer's start and no byte after it, and returns its length in bytes."
 abbrev pub written_with : List ℕ → List ℕ → Written
-written_with buffer bytes = record { answer = record { verdict = Accepted; length = length bytes }; buffer = sets buffer 0 bytes }
+written_with buffer bytes = record { answer = record { verdict = (Ok tt); length = length bytes }; buffer = sets buffer 0 bytes }
 
 -- 14 ROOM: "the code needs more bytes than the buffer has", "bytes needed"
 unfoldable pub translate_into : List ℕ → List ℕ → Written
@@ -44,10 +43,10 @@ cold_record a = record_with 1 (outputs_of a 0) 0
 
 -- "A cold start refused for its sheet returns a record of zeros."
 abbrev pub no_record : Refusal → Cold
-no_record why = record { verdict = Refused why; «record» = record_with 0 0 0 }
+no_record why = record { verdict = Err why; «record» = record_with 0 0 0 }
 
 unfoldable pub cold_run : List ℕ → Cold
-cold_run s = with_sheet s no_record λ a. record { verdict = Accepted; «record» = cold_record a }
+cold_run s = with_sheet s no_record λ a. record { verdict = (Ok tt); «record» = cold_record a }
 
 -- THE CONTRACTS of `translate`, the answer and every byte of the buffer at exit, and of `cold_run`, the verdict and the record
 pub record Translates (s old : List ℕ) (r : Translated) (new : List ℕ) : Type 0 where

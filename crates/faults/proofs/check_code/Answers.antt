@@ -1,9 +1,9 @@
 -- `faults::check_code` meets its contract. What the pass tells are the tests of the definition in their order. Assumes nothing.
+use Rattle.std.specs.Prelude.{Ok}
 use mathlib.Core.Path.{◌≡◌, sym, ap, ◌∙◌}
 use mathlib.Core.Bool.{false}
 use native.Mathlib.Omega.{arith}
-use Rattle.answer.specs.declared.Found.{Found}
-use Rattle.answer.specs.declared.Checked.TheVariants.{Accepted}
+use Rattle.std.specs.declared.option.Option.{Option}
 use Rattle.answer.specs.declared.Refusal.TheVariants as refuse
 use Rattle.answer.specs.Lowest.{refuse_at}
 use Rattle.faults.specs.Check.{end_fault}
@@ -36,7 +36,7 @@ returns-in-Fault c = sym (check-word c.args.code.now (ended (goal.at.returns-in-
 pub returns-in-Landing : goal.returns-in-Landing
 returns-in-Landing c =
     c.landed.ensures
-    ∙ ap (λ (f : Found). refuse_at refuse.Landing f Accepted) c.lowest_landing.ensures
+    ∙ ap (λ (f : Option ℕ). refuse_at refuse.Landing f (Ok tt)) c.lowest_landing.ensures
     ∙ sym (check-landing c.args.code.now (ended (goal.at.returns-in-Landing c).Else-end_fault) c.in-Landing.ensures)
 
 pub returns-in-Sound : goal.returns-in-Sound

@@ -7,7 +7,7 @@ use Prim.Native.Nat.{ℕ, ◌+◌, ◌*◌, ◌/◌}
 use native.Mathlib.Omega.{arith}
 use lib.Dec.{ltb}
 use lib.ListN.{length, get_or}
-use Rattle.answer.specs.declared.Found.{Found}
+use Rattle.std.specs.declared.option.Option.{Option}
 use Rattle.faults.specs.declared.After.TheVariants.{Open}
 use Rattle.words.specs.Word.{decode, words}
 use Rattle.faults.specs.Check.{opens, faulty, unknown, first_fault}
@@ -42,7 +42,7 @@ met c =
     ]
 
 -- what the search found is told with the number of words as the definition has it
-found : (s : List ℕ) {n : ℕ} → n ≡ length (words s) → {f : Found} → first_fault n 0 0 (words s) ≡ f
+found : (s : List ℕ) {n : ℕ} → n ≡ length (words s) → {f : Option ℕ} → first_fault n 0 0 (words s) ≡ f
     → first_fault (length (words s)) 0 0 (words s) ≡ f
 found s e h = ap (λ (n : ℕ). first_fault n 0 0 (words s)) (sym e) ∙ h
 

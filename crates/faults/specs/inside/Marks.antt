@@ -1,6 +1,5 @@
 -- How the code marks words and tells what one pass found: not needed to read the promises.
-use Rattle.std.specs.Prelude.{◌≡◌, Bool, true, false, ◌||◌, List, map, ℕ, ◌/◌, ◌%◌, ◌≤◌, ◌<◌, eqb, ltb, length, get_or, set}
-use Rattle.answer.specs.declared.Found.TheVariants.{At, Nothing}
+use Rattle.std.specs.Prelude.{◌≡◌, Bool, true, false, ◌||◌, List, map, ℕ, ◌/◌, ◌%◌, ◌≤◌, ◌<◌, eqb, ltb, length, get_or, set, Some, None}
 use Rattle.bits.specs.Word.{get_bit, put_bit}
 use Rattle.words.specs.Word.{decode, words}
 use Rattle.faults.specs.Check.{first_fault, depth_at, first_landing}
@@ -30,13 +29,13 @@ stepped false false d = Open d
 
 -- what one pass tells is so; of a landing it tells no place, and the search for the lowest needs only that no word is at fault
 abbrev pub PassTells : List ℕ → Pass → Type 0
-PassTells s (pass.Fault k) = first_fault (length (words s)) 0 0 (words s) ≡ At k
-PassTells s pass.Landing = first_fault (length (words s)) 0 0 (words s) ≡ Nothing
+PassTells s (pass.Fault k) = first_fault (length (words s)) 0 0 (words s) ≡ Some k
+PassTells s pass.Landing = first_fault (length (words s)) 0 0 (words s) ≡ None
 PassTells s pass.Sound =
-    (first_fault (length (words s)) 0 0 (words s) ≡ Nothing) × (first_landing (map decode (words s)) 0 (map decode (words s)) ≡ Nothing)
+    (first_fault (length (words s)) 0 0 (words s) ≡ None) × (first_landing (map decode (words s)) 0 (map decode (words s)) ≡ None)
 
 -- code without a faulty word, and each word marked before which a parenthesis is open
 pub record AllMarked (s bits : List ℕ) : Type 0 where
   pub few : length s ≤ 32768
-  pub sound : first_fault (length (words s)) 0 0 (words s) ≡ Nothing
+  pub sound : first_fault (length (words s)) 0 0 (words s) ≡ None
   pub marks : (k : ℕ) → k < length (words s) → marked bits k ≡ ltb 0 (depth_at 0 (map decode (words s)) k)

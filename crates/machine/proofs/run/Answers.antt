@@ -4,17 +4,17 @@ use Rattle.machine.specs.Machine.{run_scan}
 use Rattle.machine.specs.Run.{run_code}
 use Rattle.machine.proofs.run.Goals as goal
 
-pub returns-in-Accepted : goal.returns-in-Accepted
+pub returns-in-Ok : goal.returns-in-Ok
 unfolding run_code run_scan
-returns-in-Accepted c =
+returns-in-Ok c =
     rw (
       c.ran_with.ensures,
-      sym c.in-Accepted.ensures,
+      sym c.in-Ok.ensures,
       c.execute-after.ensures,
       c.record_with-begun.ensures,
       c.bring_forward-forward.ensures,
     )
 
-pub returns-in-Refused : goal.returns-in-Refused
+pub returns-in-Err : goal.returns-in-Err
 unfolding run_code
-returns-in-Refused c = rw (c.ran_with-in-Refused.ensures, sym c.in-Refused.ensures)
+returns-in-Err c = rw (c.ran_with-in-Err.ensures, sym c.in-Err.ensures)

@@ -4,7 +4,7 @@ use Prim.Native.Nat.{◌≤◌}
 use native.Mathlib.Omega.{arith}
 use borrow.Author.Rules.{rules}
 use Rattle.answer.specs.Number.{place_of, farthest}
-use Rattle.answer.specs.declared.Checked.{Checked}
+use Rattle.answer.specs.Checked.{Checked}
 use Rattle.faults.proofs.PlaceLaws.{place-fits}
 use Rattle.recorder.specs.Answer.{Told}
 use Rattle.recorder.proofs.chz_check_code.Goals as goal

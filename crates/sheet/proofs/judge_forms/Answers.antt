@@ -3,35 +3,35 @@ use mathlib.Core.Path.{sym}
 use Rattle.sheet.specs.inside.Arrows.{judge_forms}
 use Rattle.sheet.proofs.judge_forms.Goals as goal
 
-pub returns-in-At : goal.returns-in-At
+pub returns-in-Some : goal.returns-in-Some
 unfolding judge_forms
-returns-in-At c = rw (sym c.in-At.ensures)
+returns-in-Some c = rw (sym c.in-Some.ensures)
 
-pub returns-in-At-home_form : goal.returns-in-At-home_form
+pub returns-in-Some-home_form : goal.returns-in-Some-home_form
 unfolding judge_forms
-returns-in-At-home_form c = rw (sym c.in_default.ensures, sym c.in-At-home_form.ensures)
+returns-in-Some-home_form c = rw (sym c.in_default.ensures, sym c.in-Some-home_form.ensures)
 
-pub returns-in-At-gate : goal.returns-in-At-gate
+pub returns-in-Some-gate : goal.returns-in-Some-gate
 unfolding judge_forms
-returns-in-At-gate c =
-    rw (sym c.in_default.ensures, sym c.in_default-home_form.ensures, sym c.in-At-gate.ensures)
+returns-in-Some-gate c =
+    rw (sym c.in_default.ensures, sym c.in_default-home_form.ensures, sym c.in-Some-gate.ensures)
 
-pub returns-in-At-first_activity : goal.returns-in-At-first_activity
+pub returns-in-Some-first_activity : goal.returns-in-Some-first_activity
 unfolding judge_forms
-returns-in-At-first_activity c =
+returns-in-Some-first_activity c =
     rw (
       sym c.in_default.ensures,
       sym c.in_default-home_form.ensures,
       sym c.in_default-gate.ensures,
-      sym c.in-At-first_activity.ensures,
+      sym c.in-Some-first_activity.ensures,
     )
 
-pub returns-in-Nothing : goal.returns-in-Nothing
+pub returns-in-None : goal.returns-in-None
 unfolding judge_forms
-returns-in-Nothing c =
+returns-in-None c =
     rw (
       sym c.in_default.ensures,
       sym c.in_default-home_form.ensures,
       sym c.in_default-gate.ensures,
-      sym c.in-Nothing.ensures,
+      sym c.in-None.ensures,
     )

@@ -1,9 +1,8 @@
 -- The rules 7 to 13 over the decoded arrows and rows, as the code tests them: not needed to read the promises.
-use Rattle.std.specs.Prelude.{ℕ, ◌+◌, ◌*◌, ◌<◌, ◌≡◌, Bool, not, ◌&&◌, ◌||◌, List, get_or, ltb, eqb}
+use Rattle.std.specs.Prelude.{ℕ, ◌+◌, ◌*◌, ◌<◌, ◌≡◌, Bool, not, ◌&&◌, ◌||◌, List, get_or, ltb, eqb, Ok}
 use Rattle.answer.specs.declared.Refusal.TheVariants.{Loop, Pair, Rank, NoHome, HomeForm, Gate, Activity}
-use Rattle.answer.specs.declared.Found.{Found}
-use Rattle.answer.specs.declared.Checked.{Checked}
-use Rattle.answer.specs.declared.Checked.TheVariants.{Accepted}
+use Rattle.std.specs.declared.option.Option.{Option}
+use Rattle.answer.specs.Checked.{Checked}
 use Rattle.answer.specs.Lowest.{any_below, first_below, refuse_at}
 use Rattle.bits.specs.Word.{get_bit}
 use Rattle.reader.specs.declared.Arrow.{Arrow}
@@ -22,7 +21,7 @@ breaks_arrow rule.HomeForm t = eqb t.destination 0 && not (eqb t.priority 0 && e
 breaks_arrow rule.Gate t = eqb t.source 0 && not (eqb t.form 1 || eqb t.form 3)
 
 -- the lowest arrow that breaks the rule
-unfoldable pub first_break : Rule → List ℕ → ℕ → Found
+unfoldable pub first_break : Rule → List ℕ → ℕ → Option ℕ
 first_break r arrows m = first_below (λ i. breaks_arrow r (arrow_at arrows i)) m
 
 -- what must be equal besides the sources: 8 PAIR the destinations, 9 RANK the priorities
@@ -38,7 +37,7 @@ abbrev pub clash_below : Clash → List ℕ → ℕ → ℕ → Bool
 clash_below c arrows later earlier = any_below (λ i. clash_arrows c (arrow_at arrows i) (arrow_at arrows later)) earlier
 
 -- the lowest arrow that clashes with an earlier one
-unfoldable pub first_clash : Clash → List ℕ → ℕ → Found
+unfoldable pub first_clash : Clash → List ℕ → ℕ → Option ℕ
 first_clash c arrows m = first_below (λ later. clash_below c arrows later later) m
 
 -- both in one number
@@ -54,7 +53,7 @@ abbrev pub alike_below : List ℕ → ℕ → ℕ → Bool
 alike_below keys later earlier = any_below (λ i. eqb (get_or keys i 0) (get_or keys later 0)) earlier
 
 -- the lowest arrow with the key of an earlier one
-unfoldable pub first_alike : List ℕ → ℕ → Found
+unfoldable pub first_alike : List ℕ → ℕ → Option ℕ
 first_alike keys m = first_below (λ later. alike_below keys later later) m
 
 abbrev pub home_arrow : ℕ → Arrow → Bool
@@ -81,7 +80,7 @@ activity_row rows s = differs (get_bit (get_or rows s 0) 0) (eqb s 0)
 -- the numbers 10 to 13
 unfoldable pub judge_forms : List ℕ → ℕ → List ℕ → ℕ → Checked
 judge_forms arrows m rows n =
-    let thirteen = refuse_at Activity (first_below (activity_row rows) n) Accepted in
+    let thirteen = refuse_at Activity (first_below (activity_row rows) n) (Ok tt) in
     let twelve = refuse_at Gate (first_break rule.Gate arrows m) thirteen in
     let eleven = refuse_at HomeForm (first_break rule.HomeForm arrows m) twelve in
     refuse_at NoHome (first_below (lacks_home_arrow arrows m) n) eleven

@@ -1,6 +1,5 @@
 -- A sheet that is checked and decoded once, for those who go on with it: not needed to read the promises.
-use Rattle.std.specs.Prelude.{ℕ, ◌≡◌, List}
-use Rattle.answer.specs.declared.Checked.TheVariants.{Accepted}
+use Rattle.std.specs.Prelude.{ℕ, ◌≡◌, List, Ok}
 use Rattle.bits.specs.Read.{ok}
 use Rattle.reader.specs.Sheet.{Sheet}
 use Rattle.reader.specs.Reading.{read_sheet}
@@ -13,10 +12,10 @@ pub record Good (s : List ℕ) (r : Opened) (rows arrows : List ℕ) : Type 0 wh
   pub sheet : Sheet
   pub end : ℕ
   pub read : read_sheet s ≡ ok sheet end
-  pub judged : judge sheet ≡ Accepted
+  pub judged : judge sheet ≡ (Ok tt)
   pub copy : Copy s r.decoded rows arrows sheet
 
 -- the verdict, and the copy where it accepts
 pub record Opens (s : List ℕ) (r : Opened) (rows arrows : List ℕ) : Type 0 where
   pub verdict : r.verdict ≡ check_sheet s
-  pub good : r.verdict ≡ Accepted → Good s r rows arrows
+  pub good : r.verdict ≡ (Ok tt) → Good s r rows arrows
