@@ -1,3 +1,4 @@
 pub mod Field
 pub mod Word
 pub mod Read
+pub mod inside

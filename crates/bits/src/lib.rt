@@ -5,11 +5,16 @@ ghost use Rattle.std.specs.Prelude.{◌≡◌, true, false, ◌+◌, ◌*◌, �
 ghost use Rattle.bits.specs.Field.{reach, num_at, field_at};
 ghost use Rattle.bits.specs.Word.{get_bit, put_bit};
 
+use answer::Refusal;
+
 // The next bit to be read.
 #[derive(Clone, Copy, Debug, PartialEq, Eq)]
 pub struct Cursor {
     pub at: usize,
 }
+
+// What reading answers: what was read with the cursor after it, or the refusal met first.
+pub type Read<T> = Result<(T, Cursor), Refusal>;
 
 // The bytes before `stop` that the field at `at` is in. As many of the last ones are taken as a field of this width fills at least,
 // and its first byte, which may be one of them, is put above them: what stands above a field is cut off.
