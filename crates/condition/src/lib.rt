@@ -5,26 +5,36 @@ ghost use Rattle.std.specs.Prelude.{◌≡◌, ◌+◌, ◌*◌, ◌≤◌, ◌<
 ghost use Rattle.bits.specs.Field.{reach};
 ghost use Rattle.condition.specs.Reading.{cond_at, input_at, operands_at};
 ghost use Rattle.condition.specs.inside.Reach.{cond_reach};
-ghost use Rattle.condition.specs.inside.Facts.{forget, neg_facts, join_facts};
+ghost use Rattle.bits.specs.inside.Told.{told};
+ghost use Rattle.condition.specs.inside.Facts.{facts_of, neg_facts, join_facts, tag_of};
 
 use answer::Refusal;
-use bits::{Cursor, Got};
+use bits::{Cursor, Read};
+
+// The forms that HOME-FORM and GATE ask for: input 0; NOT input 0; an AND whose first operand is input 0; and any other.
+#[derive(Clone, Copy, Debug, PartialEq, Eq)]
+pub enum Form {
+    Other,
+    On,
+    Off,
+    Gated,
+}
 
 // The nodes of a condition and of what was read before it; the condition's value at an input word, its form and its words of code.
-// The form: 1 input 0; 2 NOT input 0; 3 an AND whose first operand is input 0; else 0.
-#[derive(Clone, Copy)]
+#[derive(Clone, Copy, Debug, PartialEq, Eq)]
 pub struct Facts {
     pub nodes: u32,
     pub value: bool,
-    pub form: u8,
+    pub form: Form,
     pub words: u32,
 }
 
-// The cursor after a condition with its facts, or a refusal.
-#[derive(Clone, Copy)]
-pub enum CondRead {
-    Next(Cursor, Facts),
-    Bad(Refusal),
+// The operator of a node that has operands.
+#[derive(Clone, Copy, Debug, PartialEq, Eq)]
+enum Operator {
+    Not,
+    And,
+    Or,
 }
 
 // The facts of NOT, from those of its operand.
@@ -32,118 +42,78 @@ fn negated(f: Facts) -> Facts
     requires { f.words ≤ 1000 }
     ensures { result ≡ neg_facts f }
 {
-    let words = f.words + 1;
-    let value = !f.value;
-    let form = f.form;
-    if form == 1 {
-        return Facts {
-            nodes: f.nodes,
-            value: value,
-            form: 2,
-            words: words,
-        };
-    }
     Facts {
         nodes: f.nodes,
-        value: value,
-        form: 0,
-        words: words,
+        value: !f.value,
+        form: if matches!(f.form, Form::On) { Form::Off } else { Form::Other },
+        words: f.words + 1,
     }
 }
 
-// The facts of AND (tag 2) or OR, from those of its operands.
-fn joined(tag: u32, f: Facts, g: Facts) -> Facts
+// The facts of AND or OR, from those of its operands.
+fn joined(and: bool, f: Facts, g: Facts) -> Facts
     requires { (f.words ≤ 1000) × (g.words ≤ 1000) }
-    ensures { result ≡ join_facts tag f g }
+    ensures { result ≡ join_facts and f g }
 {
-    let words = f.words + g.words + 2;
-    let a = f.value;
-    let b = g.value;
-    let form = f.form;
-    if tag == 2 {
-        if form == 1 {
-            return Facts {
-                nodes: g.nodes,
-                value: a & b,
-                form: 3,
-                words: words,
-            };
-        }
-        return Facts {
-            nodes: g.nodes,
-            value: a & b,
-            form: 0,
-            words: words,
-        };
-    }
     Facts {
         nodes: g.nodes,
-        value: a | b,
-        form: 0,
-        words: words,
+        value: if and { f.value & g.value } else { f.value | g.value },
+        form: if and & matches!(f.form, Form::On) { Form::Gated } else { Form::Other },
+        words: f.words + g.words + 2,
     }
 }
 
 // The number of an input node, whose tag is read.
-fn read_input(s: &[u8], c: Cursor, inputs: u32, seen: u32, word: u32) -> CondRead
+fn read_input(s: &[u8], c: Cursor, inputs: u32, seen: u32, word: u32) -> Read<Facts>
     requires { (c.at < reach) × (seen < 31) }
-    ensures { result ≡ forget word (input_at s.now inputs seen c.at) }
+    ensures { result ≡ told (facts_of word) (input_at s.now inputs seen c.at) }
 {
-    let at = c.at;
-    let g = bits::field(s, c, 4);
-    let Got::Field(i, next) = g else {
-        return CondRead::Bad(Refusal::Short(at));
+    let Some((i, next)) = bits::field(s, c, 4) else {
+        return Err(Refusal::Short(c.at));
     };
     if inputs <= i {
-        return CondRead::Bad(Refusal::InputNo(at));
+        return Err(Refusal::InputNo(c.at));
     }
-    let value = bits::get_bit(word, i);
-    if i == 0 {
-        return CondRead::Next(
-            next,
-            Facts {
-                nodes: seen + 1,
-                value: value,
-                form: 1,
-                words: 1,
-            },
-        );
-    }
-    CondRead::Next(
-        next,
-        Facts {
-            nodes: seen + 1,
-            value: value,
-            form: 0,
-            words: 1,
-        },
-    )
+    let facts = Facts {
+        nodes: seen + 1,
+        value: bits::get_bit(word, i),
+        form: if i == 0 { Form::On } else { Form::Other },
+        words: 1,
+    };
+    Ok((facts, next))
 }
 
 // The condition at the cursor, at most `room` deep, of a sheet with `inputs` inputs, where `seen` nodes stand before it.
 #[cycle(read_condition_read_operands)]
-pub fn read_condition(s: &[u8], c: Cursor, inputs: u32, room: u32, seen: u32, word: u32) -> CondRead
+pub fn read_condition(
+    s: &[u8],
+    c: Cursor,
+    inputs: u32,
+    room: u32,
+    seen: u32,
+    word: u32,
+) -> Read<Facts>
     requires { (c.at < cond_reach + 6 * seen) × (seen ≤ 31) }
-    ensures { result ≡ forget word (cond_at room s.now inputs seen c.at) }
+    ensures { result ≡ told (facts_of word) (cond_at room s.now inputs seen c.at) }
 {
-    let at = c.at;
-    let g = bits::field(s, c, 2);
-    let Got::Field(tag, next) = g else {
-        return CondRead::Bad(Refusal::Short(at));
+    let Some((tag, next)) = bits::field(s, c, 2) else {
+        return Err(Refusal::Short(c.at));
     };
     if room == 0 {
-        return CondRead::Bad(Refusal::Big(at));
+        return Err(Refusal::Big(c.at));
     }
     if 31 <= seen {
-        return CondRead::Bad(Refusal::Big(at));
+        return Err(Refusal::Big(c.at));
     }
-    if tag == 0 {
-        return read_input(s, next, inputs, seen, word);
+    match tag {
+        0 => read_input(s, next, inputs, seen, word),
+        1 => read_operands(s, next, inputs, room - 1, seen + 1, Operator::Not, word),
+        2 => read_operands(s, next, inputs, room - 1, seen + 1, Operator::And, word),
+        _ => read_operands(s, next, inputs, room - 1, seen + 1, Operator::Or, word),
     }
-    read_operands(s, next, inputs, room - 1, seen + 1, tag, word)
 }
 
-// The operands of a node with this tag: one for NOT, else two. The bits left fall with each call of the cycle.
+// The operands of a node with this operator: one for NOT, else two. The bits left fall with each call of the cycle.
 #[cycle(read_condition_read_operands)]
 fn read_operands(
     s: &[u8],
@@ -151,23 +121,16 @@ fn read_operands(
     inputs: u32,
     room: u32,
     seen: u32,
-    tag: u32,
+    operator: Operator,
     word: u32,
-) -> CondRead
+) -> Read<Facts>
     requires { (c.at < cond_reach + 6 * seen) × (seen ≤ 31) }
-    ensures { result ≡ forget word (operands_at (cond_at room s.now inputs) tag seen c.at) }
+    ensures { result ≡ told (facts_of word) (operands_at (cond_at room s.now inputs) (tag_of operator) seen c.at) }
 {
-    let first = read_condition(s, c, inputs, room, seen, word);
-    let CondRead::Next(next, f) = first else {
-        return first;
-    };
-    if tag == 1 {
-        return CondRead::Next(next, negated(f));
+    let (f, next) = read_condition(s, c, inputs, room, seen, word)?;
+    if operator == Operator::Not {
+        return Ok((negated(f), next));
     }
-    let used = f.nodes;
-    let second = read_condition(s, next, inputs, room, used, word);
-    let CondRead::Next(last, g) = second else {
-        return second;
-    };
-    CondRead::Next(last, joined(tag, f, g))
+    let (g, last) = read_condition(s, next, inputs, room, f.nodes, word)?;
+    Ok((joined(operator == Operator::And, f, g), last))
 }
