@@ -12,14 +12,12 @@ use Rattle.reader.specs.Sheet.{Sheet}
 use Rattle.reader.specs.Reading.{read_sheet}
 use Rattle.sheet.specs.Judging.{check_sheet}
 use Rattle.scan.specs.declared.State.{State}
-use Rattle.scan.specs.declared.Scanned.{Scanned}
-use Rattle.scan.specs.Scan.{scan_of, cold_of, scan_sheet}
+use Rattle.scan.specs.Scan.{scan_of, cold_of, scan_sheet, Scanned}
 use Rattle.words.specs.Word.{Word, decode, to_bytes, words}
 use Rattle.faults.specs.Check.{check_code}
 use Rattle.machine.specs.declared.Record.{Record}
-use Rattle.machine.specs.declared.Ran.{Ran}
 use Rattle.machine.specs.Machine.{run_scan}
-use Rattle.machine.specs.Run.{mach_of, record_of, run_code}
+use Rattle.machine.specs.Run.{mach_of, record_of, run_code, Ran}
 use Rattle.translate.specs.Writing.{unwritten, written_with}
 use Rattle.same.specs.Same.{embed}
 use Rattle.same.specs.Histories.{Tick, Runner, ref_after, run_after, Follows}

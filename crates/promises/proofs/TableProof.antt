@@ -17,15 +17,13 @@ use Rattle.sheet.specs.Judging.{clashes, lacks_home, judge, check_sheet, with_sh
 use Rattle.sheet.specs.Table as sheets
 use Rattle.sheet.specs.Table.{sheet_m}
 use Rattle.scan.specs.declared.State.{State}
-use Rattle.scan.specs.declared.Scanned.{Scanned}
-use Rattle.scan.specs.Scan.{can, best, outputs_of, after, scan_of, cold_of, scan_sheet, cold_scan}
+use Rattle.scan.specs.Scan.{can, best, outputs_of, after, scan_of, cold_of, scan_sheet, cold_scan, Scanned}
 use Rattle.machine.specs.declared.Record.{Record}
 use Rattle.words.specs.Word.{code_no, operand, word_no, known, decode, bytes_of, to_bytes, words}
 use Rattle.machine.specs.Machine.{flag_to, out_to, exec, run_scan}
 use Rattle.faults.specs.Check.{end_fault, opens, faulty, unknown, first_fault, depth_at, lands_open, first_landing, check_code}
 use Rattle.machine.specs.Run.{mach_of, record_of, run_code}
 use Rattle.words.specs.Worked.{bytes, code11}
-use Rattle.translate.specs.declared.Cold.{Cold}
 use Rattle.translate.specs.Translation.{
   cond_code,
   wait_code,
@@ -42,7 +40,7 @@ use Rattle.translate.specs.Translation.{
   end_at,
   translate,
 }
-use Rattle.translate.specs.Writing.{code_of, translate_into, cold_record, cold_run}
+use Rattle.translate.specs.Writing.{code_of, translate_into, cold_record, cold_run, Cold}
 use Rattle.same.specs.Histories.{Tick}
 use Rattle.promises.specs.Length.{words_of}
 use Rattle.promises.specs.Table.{two_contact, two_rows, two_arcs, two_sheet, scans, runs, state, flag, Table}

@@ -18,8 +18,7 @@ use Rattle.reader.specs.Sheet.{Sheet}
 use Rattle.reader.specs.Reading.{read_header, row_at, transition_at, ends_at, read_sheet}
 use Rattle.sheet.specs.Judging.{clashes, lacks_home, judge, check_sheet, with_sheet}
 use Rattle.sheet.specs.Table.{sheet_m}
-use Rattle.scan.specs.declared.Scanned.{Scanned}
-use Rattle.scan.specs.Scan.{can, best, outputs_of, after, scan_of, cold_of, scan_sheet, cold_scan}
+use Rattle.scan.specs.Scan.{can, best, outputs_of, after, scan_of, cold_of, scan_sheet, cold_scan, Scanned}
 use Rattle.machine.specs.declared.Record.{Record}
 use Rattle.words.specs.Word.{END, code_no, operand, word_no, known, decode, bytes_of, to_bytes, words}
 use Rattle.machine.specs.Machine.{exec, run_scan}

@@ -18,8 +18,7 @@ use Rattle.scan.specs.declared.State.{State}
 use Rattle.scan.specs.Scan.{scan_of, cold_of}
 use Rattle.words.specs.Word.{Word, END, LDS, ANDP, PAR, R, S, JMPC, JMP, to_bytes}
 use Rattle.machine.specs.declared.Record.{Record}
-use Rattle.machine.specs.declared.Ran.{Ran}
-use Rattle.machine.specs.Run.{record_with, ran_with, run_code}
+use Rattle.machine.specs.Run.{record_with, ran_with, run_code, Ran}
 use Rattle.translate.specs.Translation.{cond_code, wait_code, block, sort, state_blocks, translate}
 use Rattle.translate.specs.Writing.{unwritten, written_with, translate_into}
 use Rattle.refusals.specs.Refusals.{Numbered}

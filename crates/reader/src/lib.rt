@@ -41,8 +41,6 @@ pub struct Decoded {
     pub header: Header,
     pub rows: [u16; 32],
     pub arrows: [u64; 128],
-    ghost few_states: { header.states ≤ 32 },
-    ghost few_arrows: { header.transitions ≤ 128 },
 }
 
 impl Decoded {
@@ -63,6 +61,7 @@ impl Decoded {
 
     // The outputs of the sheet's states.
     pub fn rows(&self) -> &[u16]
+        requires { self.now.header.states ≤ 32 }
         ensures { result.now ≡ take self.now.header.states self.now.rows }
     {
         &self.rows[..self.header.states as usize]
@@ -70,6 +69,7 @@ impl Decoded {
 
     // The sheet's arrows.
     pub fn arrows(&self) -> &[u64]
+        requires { self.now.header.transitions ≤ 128 }
         ensures { result.now ≡ take self.now.header.transitions self.now.arrows }
     {
         &self.arrows[..self.header.transitions as usize]

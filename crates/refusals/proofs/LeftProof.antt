@@ -20,13 +20,11 @@ use Rattle.reader.specs.Sheet.{Sheet}
 use Rattle.reader.specs.Reading.{read_sheet}
 use Rattle.sheet.specs.Judging.{judge, check_sheet, judged_or, read_or, with_sheet}
 use Rattle.scan.specs.declared.State.{State}
-use Rattle.scan.specs.declared.Scanned.{Scanned}
-use Rattle.scan.specs.Scan.{accepted, refused, scan_of, cold_of, scan_sheet, cold_scan, zeros}
+use Rattle.scan.specs.Scan.{accepted, refused, scan_of, cold_of, scan_sheet, cold_scan, zeros, Scanned}
 use Rattle.machine.specs.declared.Record.{Record}
 use Rattle.faults.specs.Check.{check_code}
 use Rattle.machine.specs.Run.{record_with, ran_by, run_code}
-use Rattle.translate.specs.declared.Cold.{Cold}
-use Rattle.translate.specs.Writing.{Written, code_of, unwritten, written_with, translate_into, cold_record, no_record, cold_run}
+use Rattle.translate.specs.Writing.{Written, code_of, unwritten, written_with, translate_into, cold_record, no_record, cold_run, Cold}
 use Rattle.refusals.specs.Left.{Left}
 use Rattle.same.proofs.AcceptedLaws.{accepted-refused, refused-is}
 

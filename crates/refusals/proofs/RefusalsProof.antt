@@ -17,8 +17,7 @@ use Rattle.reader.specs.Sheet.{Sheet}
 use Rattle.reader.specs.Reading.{read_sheet}
 use Rattle.sheet.specs.Judging.{judge, judge_read, check_sheet, judged_or, read_or, with_sheet}
 use Rattle.scan.specs.declared.State.{State}
-use Rattle.scan.specs.declared.Scanned.{Scanned}
-use Rattle.scan.specs.Scan.{accepted, refused, scan_of, scan_sheet}
+use Rattle.scan.specs.Scan.{accepted, refused, scan_of, scan_sheet, Scanned}
 use Rattle.translate.specs.Writing.{Written, code_of, unwritten, written_with, translate_into}
 use Rattle.refusals.specs.Refusals as says
 use Rattle.refusals.specs.Refusals.{Lowest, SheetFault, Unread, Refusals}

@@ -17,15 +17,12 @@ use Rattle.reader.specs.Reading.{read_sheet}
 use Rattle.rules.specs.Rules.{Rules}
 use Rattle.sheet.specs.Judging.{check_sheet}
 use Rattle.scan.specs.declared.State.{State}
-use Rattle.scan.specs.declared.Scanned.{Scanned}
-use Rattle.scan.specs.Scan.{scan_of, cold_of}
+use Rattle.scan.specs.Scan.{scan_of, cold_of, Scanned}
 use Rattle.machine.specs.declared.Record.{Record}
-use Rattle.machine.specs.declared.Ran.{Ran}
 use Rattle.machine.specs.Machine.{Out}
-use Rattle.machine.specs.Run.{record_of, ran_with, run_code}
-use Rattle.translate.specs.declared.Cold.{Cold}
+use Rattle.machine.specs.Run.{record_of, ran_with, run_code, Ran}
 use Rattle.translate.specs.Translation.{translate}
-use Rattle.translate.specs.Writing.{code_of, cold_record}
+use Rattle.translate.specs.Writing.{code_of, cold_record, Cold}
 use Rattle.machine.proofs.TextLaws.{runs}
 use Rattle.same.specs.Same.{embed, Fits}
 use Rattle.moves.specs.Moves.{Moves, fires, stays}

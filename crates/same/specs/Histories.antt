@@ -1,11 +1,11 @@
 -- Histories: the records after any list of scans from a cold start, and what holds after every one.
+use Rattle.machine.specs.Run.{Ran}
 use Rattle.std.specs.Prelude.{◌≡◌, false, cond, List, [], ◌∷◌, ℕ, ◌+◌, ◌^◌, ◌<◌, min, eqb, Ok}
 use Rattle.bits.specs.Word.{get_bit}
 use Rattle.reader.specs.Sheet.{Sheet}
 use Rattle.scan.specs.declared.State.{State}
 use Rattle.scan.specs.Scan.{outputs_of, scan_sheet, cold_scan}
 use Rattle.machine.specs.declared.Record.{Record}
-use Rattle.machine.specs.declared.Ran.{Ran}
 use Rattle.translate.specs.Writing.{cold_run}
 use Rattle.same.specs.Same.{embed}
 
