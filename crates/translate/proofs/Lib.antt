@@ -1,7 +1,8 @@
 pub mod LengthLaws
 pub mod SortLaws
-pub mod InsertLaws
+pub mod ArrowLaws
 pub mod RoomLaws
+pub mod PutLaws
 pub mod ConditionLaws
 pub mod BlockLaws
 pub mod RowLaws
