@@ -1,12 +1,14 @@
 -- Laws of reading a condition: how far the cursor and the count of nodes go, and what the code's steps find. Assumes nothing.
 use mathlib.Core.Path.{◌≡◌, refl, sym, ap, ◌∙◌, subst₃}
 use mathlib.Core.List.{List}
-use mathlib.Core.Bool.{Bool, true, false, ◌&&◌, ◌||◌}
+use mathlib.Core.Bool.{Bool, true, false}
 use Prim.Native.Nat.{ℕ, zero, suc, ◌+◌, ◌*◌, ◌-◌, ◌≤◌, ◌<◌}
 use native.Mathlib.Omega.{arith}
 use lib.ListN.{length}
 use lib.Dec.{ltb, leb, eqb}
-use borrow.Author.Tests.{leb-false, ltb-true, eq-eqb, ne_eqb}
+use borrow.Author.Tests.{leb-false, ltb-true}
+use denote.Enum.Bare.{sameb}
+use Rattle.condition.specs.contracts.Operator.{the_type}
 use Rattle.answer.specs.declared.Refusal.{Refusal}
 use Rattle.answer.specs.declared.Refusal.TheVariants.{Short, InputNo, Big}
 use Rattle.bits.specs.Field.{field_at}
@@ -16,9 +18,8 @@ use Rattle.bits.specs.inside.Told.{told}
 use Rattle.bits.proofs.ReadLaws.{ok-next, ok-is, ok-no, bind_ok, guard_ok, field-read}
 use Rattle.condition.specs.Cond.{Cond, inp, neg, eval, word_count}
 use Rattle.condition.specs.Reading.{Counted, counted, input_at, joined, behind, operands_at, node_at, cond_at}
-use Rattle.condition.specs.inside.Facts.{pick_form, is_form_on, form_of, tag_of, facts_of, neg_facts, pick_value, join_facts}
+use Rattle.condition.specs.inside.Facts.{form_of, tag_of, facts_of, neg_facts, join_facts}
 use Rattle.condition.specs.declared.Facts.{Facts}
-use Rattle.condition.specs.declared.Form.TheVariants.{Gated}
 use Rattle.condition.specs.declared.Operator.{Operator}
 use Rattle.condition.specs.declared.Operator.TheVariants.{Not, And, Or}
 use Rattle.std.specs.Prelude.{Some, None, Ok, Err}
@@ -119,6 +120,17 @@ unfolding cond_at
 cond-node zero s k seen at tag c e z = absurd (z refl)
 cond-node (suc room) s k seen at tag c e z = let p : suc room - 1 ≡ room = omega arith in rw (e, p)
 
+-- an operator as the code compares it
+pub same_not : (o : Operator) → sameb the_type o Not ≡ eqb (tag_of o) 1
+same_not Not = refl
+same_not And = refl
+same_not Or = refl
+
+pub same_and : (o : Operator) → sameb the_type o And ≡ eqb (tag_of o) 2
+same_and Not = refl
+same_and And = refl
+same_and Or = refl
+
 -- what the code says of a tree
 module _ (word : ℕ) where
   neg-facts : (x : Counted) → facts_of word (counted (neg x.tree) x.count) ≡ neg_facts (facts_of word x)
@@ -136,34 +148,33 @@ module _ (word : ℕ) where
     unfolding operands_at
     ops-bad tag r h = rw (told-bad (facts_of word) (read seen at) r h)
 
-    module _ (c : Cursor) (f : Facts) (h : told (facts_of word) (read seen at) ≡ Ok (f, c)) where
-      pub ops-one : told (facts_of word) (operands_at read (tag_of Not) seen at) ≡ Ok (neg_facts f, c)
+    module _ (tag : ℕ) (c : Cursor) (f : Facts) (h : told (facts_of word) (read seen at) ≡ Ok (f, c)) where
+      pub ops-one : eqb tag 1 ≡ true → told (facts_of word) (operands_at read tag seen at) ≡ Ok (neg_facts f, c)
       unfolding operands_at
-      ops-one =
+      ops-one e =
           let x = told-got (facts_of word) (read seen at) f c h in
-          rw x.1 (ap (λ (y : Facts). Ok (y, c)) (neg-facts x.0 ∙ ap neg_facts (sym x.2)))
+          rw (x.1, e) (ap (λ (y : Facts). Ok (y, c)) (neg-facts x.0 ∙ ap neg_facts (sym x.2)))
 
-      -- the second operand, for AND (b) and for OR
-      two-bad : (b : Bool) (tag : ℕ) → eqb tag 1 ≡ false → (r : Refusal) → told (facts_of word) (read f.nodes c.at) ≡ Err r
+      pub ops-two-bad : eqb tag 1 ≡ false → (r : Refusal) → told (facts_of word) (read f.nodes c.at) ≡ Err r
           → told (facts_of word) (operands_at read tag seen at) ≡ Err r
       unfolding operands_at
-      two-bad b tag e r q =
+      ops-two-bad e r q =
           let x = told-got (facts_of word) (read seen at) f c h in
           let n : f.nodes ≡ x.0.count = ap (λ (y : Facts). y.nodes) x.2 in
           rw (x.1, e, ← n, told-bad (facts_of word) (read f.nodes c.at) r q)
 
-      two : (b : Bool) (tag : ℕ) → eqb tag 1 ≡ false → eqb tag 2 ≡ b → (d : Cursor) (g : Facts) → told (facts_of word) (read f.nodes c.at) ≡ Ok (g, d)
-          → told (facts_of word) (operands_at read tag seen at) ≡ Ok (join_facts b f g, d)
+      pub ops-two : eqb tag 1 ≡ false → (d : Cursor) (g : Facts) → told (facts_of word) (read f.nodes c.at) ≡ Ok (g, d)
+          → told (facts_of word) (operands_at read tag seen at) ≡ Ok (join_facts (eqb tag 2) f g, d)
       unfolding operands_at
-      two b tag e e2 d g q =
+      ops-two e d g q =
           let x = told-got (facts_of word) (read seen at) f c h in
           let y = told-got (facts_of word) (read f.nodes c.at) g d q in
           let n : f.nodes ≡ x.0.count = ap (λ (z : Facts). z.nodes) x.2 in
-          rw (x.1, e, ← n, y.1, e2)
+          rw (x.1, e, ← n, y.1)
           (ap (λ (z : Facts). Ok (z, d))
-          (join-facts b x.0.tree y.0.tree x.0.count y.0.count
-          ∙ ap (λ (z : Facts). join_facts b z (facts_of word y.0)) (sym x.2)
-          ∙ ap (join_facts b f) (sym y.2)))
+          (join-facts (eqb tag 2) x.0.tree y.0.tree x.0.count y.0.count
+          ∙ ap (λ (z : Facts). join_facts (eqb tag 2) z (facts_of word y.0)) (sym x.2)
+          ∙ ap (join_facts (eqb tag 2) f) (sym y.2)))
 
 -- what the code's answer says of its cursor and its counts
 pub record Told (s : List ℕ) (seen at : ℕ) (c : Cursor) (f : Facts) : Type 0 where
