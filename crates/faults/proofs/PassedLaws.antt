@@ -33,7 +33,7 @@ module _ (s : List ℕ) where
   check-landing e f = rw (e, f)
 
   pub check-passed : end_fault s ≡ false → first_fault (length (words s)) 0 0 (words s) ≡ None
-      → first_landing (map decode (words s)) 0 (map decode (words s)) ≡ None → check_code s ≡ Ok tt
+      → first_landing (map decode (words s)) 0 (map decode (words s)) ≡ None → check_code s ≡ (Ok tt)
   unfolding check_code
   check-passed e f g = rw (e, f, g)
 
@@ -65,14 +65,14 @@ pub record Parts (s : List ℕ) : Type 0 where
   pub sound : first_fault (length (words s)) 0 0 (words s) ≡ None
   pub lands : first_landing (map decode (words s)) 0 (map decode (words s)) ≡ None
 
-pub parts : (s : List ℕ) → check_code s ≡ Ok tt → Parts s
+pub parts : (s : List ℕ) → check_code s ≡ (Ok tt) → Parts s
 unfolding check_code
 parts s h =
     go (end_fault s) refl (first_fault (length (words s)) 0 0 (words s)) refl (first_landing (map decode (words s)) 0 (map decode (words s))) refl h
   where
     go : (x : Bool) → end_fault s ≡ x → (y : Option ℕ) → first_fault (length (words s)) 0 0 (words s) ≡ y
         → (z : Option ℕ) → first_landing (map decode (words s)) 0 (map decode (words s)) ≡ z
-        → cond x (Err refuse.CodeEnd) (refuse_at refuse.Word y (refuse_at refuse.Landing z (Ok tt))) ≡ Ok tt → Parts s
+        → cond x (Err refuse.CodeEnd) (refuse_at refuse.Word y (refuse_at refuse.Landing z (Ok tt))) ≡ (Ok tt) → Parts s
     go true p y q z r e = absurd (let o : ◌≡◌ {A = ℕ} 0 1 = cc in omega arith)
     go false p (Some w) q z r e = absurd (let o : ◌≡◌ {A = ℕ} 0 1 = cc in omega arith)
     go false p None q (Some w) r e = absurd (let o : ◌≡◌ {A = ℕ} 0 1 = cc in omega arith)
@@ -85,7 +85,7 @@ pub record Passed (s : List ℕ) : Type 0 where
   pub sound : (k : ℕ) → k < length (words s) → faulty (length (words s)) k (depth_at 0 (map decode (words s)) k) (decode (get_or (words s) k 0)) ≡ false
   pub lands : (k : ℕ) → k < length (words s) → lands_open (map decode (words s)) (decode (get_or (words s) k 0)) ≡ false
 
-pub accepted : (s : List ℕ) → check_code s ≡ Ok tt → Passed s
+pub accepted : (s : List ℕ) → check_code s ≡ (Ok tt) → Passed s
 accepted s h =
     let p = parts s h in
     record {
@@ -106,7 +106,7 @@ end-from s e =
     )
 
 -- and so the check accepts exactly what these rules admit
-pub accepts : (s : List ℕ) → Passed s → check_code s ≡ Ok tt
+pub accepts : (s : List ℕ) → Passed s → check_code s ≡ (Ok tt)
 accepts s p =
     check-passed s (end-from s p.ended)
     (sound-to (length (words s)) 0 0 (words s) λ k l. (p.known k l, rw (zero-add k) (p.sound k l)))

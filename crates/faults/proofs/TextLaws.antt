@@ -42,7 +42,7 @@ ends-well xs h =
 pub passes : (xs : List Word) → Fit (xs ++ END ∷ []) → length (xs ++ END ∷ []) ≤ 8192
     → first_among (length (xs ++ END ∷ [])) 0 0 (xs ++ END ∷ []) ≡ None
     → first_landing (xs ++ END ∷ []) 0 (xs ++ END ∷ []) ≡ None
-    → check_code (to_bytes (xs ++ END ∷ [])) ≡ Ok tt
+    → check_code (to_bytes (xs ++ END ∷ [])) ≡ (Ok tt)
 passes xs fit few sound lands =
     check-passed (to_bytes (xs ++ END ∷ [])) (end-from (to_bytes (xs ++ END ∷ [])) (ends-well xs few))
     (rw (words-to (xs ++ END ∷ []), length-map (xs ++ END ∷ []) word_no) (among (length (xs ++ END ∷ [])) 0 0 (xs ++ END ∷ []) fit ∙ sound))

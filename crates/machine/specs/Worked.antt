@@ -13,9 +13,9 @@ use Rattle.machine.specs.Run.{record_with, mach_of, run_code}
 -- record back
 pub runs :
     (answer code11 ≡ 0 ∷ 0 ∷ [])
-    × (run_code (bytes code11) (record_with 2 0 5) 0 7 ≡ record { verdict = Ok tt; «record» = record_with 1 1 0 })
-    × (run_code (bytes code11) (record_with 2 0 5) 1 50 ≡ record { verdict = Ok tt; «record» = record_with 2 0 55 })
-    × (run_code (bytes code11) (record_with 1 1 16777000) 1 4294967295 ≡ record { verdict = Ok tt; «record» = record_with 1 1 16777215 })
+    × (run_code (bytes code11) (record_with 2 0 5) 0 7 ≡ record { verdict = (Ok tt); «record» = record_with 1 1 0 })
+    × (run_code (bytes code11) (record_with 2 0 5) 1 50 ≡ record { verdict = (Ok tt); «record» = record_with 2 0 55 })
+    × (run_code (bytes code11) (record_with 1 1 16777000) 1 4294967295 ≡ record { verdict = (Ok tt); «record» = record_with 1 1 16777215 })
     × (run_code (bytes inside) (record_with 2 0 5) 1 50 ≡ record { verdict = Err (refuse.Landing 1); «record» = record_with 2 0 5 })
     × ((run_scan (map decode code11) (mach_of (record_with 2 0 5)) 0 7).ran ≡ 12)
 unfolding bytes bytes_of answer code11 inside words decode known word_no code_no operand end_fault opens faulty unknown first_fault depth_at lands_open
