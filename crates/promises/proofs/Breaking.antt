@@ -12,14 +12,12 @@ use Rattle.reader.specs.Sheet.{Sheet}
 use Rattle.reader.specs.Reading.{read_sheet}
 use Rattle.sheet.specs.Judging.{check_sheet}
 use Rattle.scan.specs.declared.State.{State}
-use Rattle.scan.specs.declared.Scanned.{Scanned}
-use Rattle.scan.specs.Scan.{scan_of, cold_of, scan_sheet}
+use Rattle.scan.specs.Scan.{scan_of, cold_of, scan_sheet, Scanned}
 use Rattle.words.specs.Word.{Word, decode, to_bytes, words}
 use Rattle.faults.specs.Check.{check_code}
 use Rattle.machine.specs.declared.Record.{Record}
-use Rattle.machine.specs.declared.Ran.{Ran}
 use Rattle.machine.specs.Machine.{run_scan}
-use Rattle.machine.specs.Run.{mach_of, record_of, run_code}
+use Rattle.machine.specs.Run.{mach_of, record_of, run_code, Ran}
 use Rattle.translate.specs.Writing.{unwritten, written_with}
 use Rattle.same.specs.Same.{embed}
 use Rattle.same.specs.Histories.{Tick, Runner, ref_after, run_after, Follows}
@@ -29,14 +27,14 @@ use Rattle.promises.specs.Demand3.{Translator, code_in, Demand3}
 use Rattle.promises.specs.Earlier.{writing, Gives}
 
 -- a scan of code that is checked and decoded
-pub run_of : (code : List Word) → check_code (to_bytes code) ≡ (Ok tt) → map decode (words (to_bytes code)) ≡ code
+pub run_of : (code : List Word) → check_code (to_bytes code) ≡ Ok tt → map decode (words (to_bytes code)) ≡ code
     → (r : Record) (word elapsed : ℕ)
     → run_code (to_bytes code) r word elapsed
-    ≡ record { verdict = (Ok tt); «record» = record_of (run_scan code (mach_of r) word elapsed).mach }
+    ≡ record { verdict = Ok tt; «record» = record_of (run_scan code (mach_of r) word elapsed).mach }
 unfolding run_code
 run_of code checked decoded r word elapsed = rw (checked, decoded) refl
 
-module _ (s : List ℕ) (a : Sheet) (end : ℕ) (read : read_sheet s ≡ ok a end) (acc : check_sheet s ≡ (Ok tt)) where
+module _ (s : List ℕ) (a : Sheet) (end : ℕ) (read : read_sheet s ≡ ok a end) (acc : check_sheet s ≡ Ok tt) where
   -- the reference's record from cold, and after one more scan
   pub ref-cold : ref_after s [] ≡ cold_of a
   unfolding ref_after
@@ -63,8 +61,8 @@ module _ (s : List ℕ) (a : Sheet) (end : ℕ) (read : read_sheet s ≡ ok a en
       (room : List ℕ) (fits : 4 * words_of a ≤ length room) where
     -- what demand 3 says of this sheet and a buffer with room for its code
     pub demanded : (b : Sheet)
-        × ((f s room).answer.verdict ≡ (Ok tt))
-        × (check_code (code_in (f s room)) ≡ (Ok tt))
+        × ((f s room).answer.verdict ≡ Ok tt)
+        × (check_code (code_in (f s room)) ≡ Ok tt)
         × ((ticks : List Tick) → Follows run s b (code_in (f s room)) ticks)
     demanded =
         let h = d s acc in

@@ -11,12 +11,10 @@ use Rattle.bits.proofs.ReadLaws.{ok-is}
 use Rattle.reader.specs.Sheet.{transition_of}
 use Rattle.rules.proofs.Acceptance.{accepted-rules}
 use Rattle.rules.proofs.Counting.{homes-few, pairs-few, weighed}
-use Rattle.scan.specs.declared.Scanned.{Scanned}
-use Rattle.scan.specs.Scan.{scan_of, scan_sheet}
+use Rattle.scan.specs.Scan.{scan_of, scan_sheet, Scanned}
 use Rattle.machine.specs.Run.{run_code}
-use Rattle.translate.specs.declared.Cold.{Cold}
 use Rattle.translate.specs.Translation.{translate}
-use Rattle.translate.specs.Writing.{Written, code_of, translate_into}
+use Rattle.translate.specs.Writing.{Written, code_of, translate_into, Cold}
 use Rattle.same.specs.Same.{embed}
 use Rattle.promises.specs.Moves.{MovesAsPublished, OneMove}
 use Rattle.same.specs.Histories.{ref_after, run_after}

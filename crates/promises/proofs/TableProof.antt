@@ -17,15 +17,13 @@ use Rattle.sheet.specs.Judging.{clashes, lacks_home, judge, check_sheet, with_sh
 use Rattle.sheet.specs.Table as sheets
 use Rattle.sheet.specs.Table.{sheet_m}
 use Rattle.scan.specs.declared.State.{State}
-use Rattle.scan.specs.declared.Scanned.{Scanned}
-use Rattle.scan.specs.Scan.{can, best, outputs_of, after, scan_of, cold_of, scan_sheet, cold_scan}
+use Rattle.scan.specs.Scan.{can, best, outputs_of, after, scan_of, cold_of, scan_sheet, cold_scan, Scanned}
 use Rattle.machine.specs.declared.Record.{Record}
 use Rattle.words.specs.Word.{code_no, operand, word_no, known, decode, bytes_of, to_bytes, words}
 use Rattle.machine.specs.Machine.{flag_to, out_to, exec, run_scan}
 use Rattle.faults.specs.Check.{end_fault, opens, faulty, unknown, first_fault, depth_at, lands_open, first_landing, check_code}
 use Rattle.machine.specs.Run.{mach_of, record_of, run_code}
 use Rattle.words.specs.Worked.{bytes, code11}
-use Rattle.translate.specs.declared.Cold.{Cold}
 use Rattle.translate.specs.Translation.{
   cond_code,
   wait_code,
@@ -42,7 +40,7 @@ use Rattle.translate.specs.Translation.{
   end_at,
   translate,
 }
-use Rattle.translate.specs.Writing.{code_of, translate_into, cold_record, cold_run}
+use Rattle.translate.specs.Writing.{code_of, translate_into, cold_record, cold_run, Cold}
 use Rattle.same.specs.Histories.{Tick}
 use Rattle.promises.specs.Length.{words_of}
 use Rattle.promises.specs.Table.{two_contact, two_rows, two_arcs, two_sheet, scans, runs, state, flag, Table}
@@ -54,7 +52,7 @@ unfolding read_sheet read_header row_at upto transition_at ends_at two_contact t
     bits_of
 two_read = refl
 
-pub two_accepted : check_sheet two_contact ≡ (Ok tt)
+pub two_accepted : check_sheet two_contact ≡ Ok tt
 unfolding check_sheet judge clashes lacks_home any_below first_below two_sheet two_rows two_arcs is_on is_off is_gated
 two_accepted = rw two_read refl
 
@@ -68,11 +66,11 @@ two_bytes = refl
 
 -- a scan of the reference, the sheet being read
 pub two-scan : (q : State) → q.state < 9 → (word elapsed : ℕ)
-    → scan_sheet two_contact q word elapsed ≡ record { verdict = (Ok tt); «record» = scan_of two_sheet q word elapsed }
+    → scan_sheet two_contact q word elapsed ≡ record { verdict = Ok tt; «record» = scan_of two_sheet q word elapsed }
 unfolding two_sheet
 two-scan q lt word elapsed = scan-is two_contact two_sheet 1319 two_read two_accepted q lt word elapsed
 
-pub two-checked : check_code (code_of two_sheet) ≡ (Ok tt)
+pub two-checked : check_code (code_of two_sheet) ≡ Ok tt
 unfolding check_code end_fault opens faulty unknown first_fault depth_at lands_open first_landing code_no operand word_no known decode bytes_of to_bytes words code_of
     translate cond_code wait_code block key insert sort blocks row_code state_blocks block_len blocks_len word_count state_at end_at two_sheet two_rows two_arcs
 two-checked = refl
@@ -85,7 +83,7 @@ two-decoded = refl
 -- a scan of the code, the code being checked
 pub two_run : (r : Record) (word elapsed : ℕ)
     → run_code (code_of two_sheet) r word elapsed
-    ≡ record { verdict = (Ok tt); «record» = record_of (run_scan (translate two_sheet) (mach_of r) word elapsed).mach }
+    ≡ record { verdict = Ok tt; «record» = record_of (run_scan (translate two_sheet) (mach_of r) word elapsed).mach }
 unfolding code_of
 two_run = run_of (translate two_sheet) two-checked two-decoded
 

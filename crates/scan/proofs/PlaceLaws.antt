@@ -7,9 +7,8 @@ use lib.Dec.{ltb}
 use Rattle.answer.specs.Number.{place_of, farthest}
 use Rattle.answer.specs.declared.Refusal.TheVariants.{NoState}
 use Rattle.sheet.proofs.PlaceLaws.{with-holds}
-use Rattle.scan.specs.Scan.{scan_of, accepted, refused, zeros, scan_sheet, cold_scan}
+use Rattle.scan.specs.Scan.{scan_of, accepted, refused, zeros, scan_sheet, cold_scan, Scanned}
 use Rattle.scan.specs.declared.State.{State}
-use Rattle.scan.specs.declared.Scanned.{Scanned}
 
 pub place-fits : (s : List ℕ) (q : State) (word elapsed : ℕ) → q.state < 256 → place_of (scan_sheet s q word elapsed).verdict ≤ farthest
 unfolding scan_sheet

@@ -9,7 +9,7 @@ use Rattle.condition.specs.Cond.{eval}
 use Rattle.reader.specs.Sheet.{Transition, Sheet, row_of}
 use Rattle.sheet.specs.Judging.{with_sheet}
 use Rattle.scan.specs.declared.State.{State}
-use Rattle.scan.specs.declared.Scanned.{Scanned}
+use Rattle.answer.specs.declared.Answered.{Answered}
 
 -- "A transition of the active state can fire if its condition holds and the clock is at least its wait."
 unfoldable pub can : ℕ → ℕ → ℕ → Transition → Bool
@@ -54,6 +54,9 @@ unfoldable pub cold_of : Sheet → State
 cold_of a = state_with 0 (outputs_of a 0) 0
 
 -- a scan's answer
+abbrev pub Scanned : Type 0
+Scanned = Answered State
+
 abbrev pub scanned_with : Checked → State → Scanned
 scanned_with verdict q = record { verdict = verdict; «record» = q }
 

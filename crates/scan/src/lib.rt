@@ -10,7 +10,7 @@ ghost use Rattle.sheet.specs.inside.Opening.{Opens};
 ghost use Rattle.scan.specs.Scan.{can, best, state_with, scanned_with, scan_sheet, Scans, ColdScans};
 ghost use Rattle.scan.specs.inside.Picking.{Picks, took_of, Inside, moved_of};
 
-use answer::{Checked, Refusal};
+use answer::{Answered, Refusal};
 use bits::Cursor;
 use condition::CondRead;
 use reader::Arrow;
@@ -25,11 +25,7 @@ pub struct State {
 }
 
 // A scan's answer: where it is refused, the record is the one that was given.
-#[derive(Clone, Copy)]
-pub struct Scanned {
-    pub verdict: Checked,
-    pub record: State,
-}
+pub type Scanned = Answered<State>;
 
 // The one builder of a record, and of a scan's answer.
 pub fn state_with(state: u8, outputs: u16, clock: u32) -> State

@@ -10,14 +10,7 @@ ghost use Rattle.sheet.specs.inside.Arrows.{breaks_arrow, first_break, key_of, K
 ghost use Rattle.sheet.specs.inside.Opening.{Opens};
 
 use answer::{Checked, Refusal};
-use reader::{Arrow, Decoded, How};
-
-// What a sheet's bytes are found to be: the verdict, and the decoded copy where it accepts.
-#[derive(Clone, Copy)]
-pub struct Opened {
-    pub verdict: Checked,
-    pub decoded: Decoded,
-}
+use reader::{Arrow, Decoded};
 
 // The rules that look at one transition by itself.
 #[derive(Clone, Copy)]
@@ -209,33 +202,17 @@ fn judge_decoded(d: Decoded, rows: &[u16; 32], arrows: &[u64; 128]) -> Checked
 }
 
 // A sheet that is checked and decoded once, for the crates that go on with it.
-pub fn open_sheet(sheet: &[u8], rows: &mut [u16; 32], arrows: &mut [u64; 128]) -> Opened
-    requires { (length rows.old ≡ 32) × (length arrows.old ≡ 128) }
-    ensures { Opens sheet.now result rows.new arrows.new }
+pub fn open_sheet(sheet: &[u8], decoded: &mut Decoded) -> Checked
+    ensures { Opens sheet.now result decoded.new }
 {
-    let d = reader::read_sheet(sheet, rows, arrows);
-    let how = d.how;
-    match how {
-        How::Bad(why) => Opened {
-            verdict: Err(why),
-            decoded: d,
-        },
-        How::Done(_) => {
-            let verdict = judge_decoded(d, &*rows, &*arrows);
-            Opened {
-                verdict: verdict,
-                decoded: d,
-            }
-        }
-    }
+    reader::read_sheet(sheet, decoded)?;
+    judge_decoded(decoded)
 }
 
 // The verdict on any byte string.
 pub fn check_sheet(sheet: &[u8]) -> Checked
     ensures { ChecksSheet sheet.now result }
 {
-    let mut rows = [0u16; 32];
-    let mut arrows = [0u64; 128];
-    let o = open_sheet(sheet, &mut rows, &mut arrows);
-    o.verdict
+    let mut decoded = Decoded::empty();
+    open_sheet(sheet, &mut decoded)
 }

@@ -15,8 +15,7 @@ use Rattle.reader.specs.Reading.{read_sheet}
 use Rattle.sheet.proofs.PlaceLaws.{with-holds}
 use Rattle.format.proofs.Format.{read_formed}
 use Rattle.scan.proofs.AllLaws.{all_of}
-use Rattle.translate.specs.Writing.{code_of, Written, unwritten, written_with, translate_into, no_record, cold_run}
-use Rattle.translate.specs.declared.Cold.{Cold}
+use Rattle.translate.specs.Writing.{code_of, Written, unwritten, written_with, translate_into, no_record, cold_run, Cold}
 use Rattle.translate.proofs.LengthLaws.{code_end, code-bytes}
 use Rattle.translate.proofs.RoomLaws.{end-words}
 

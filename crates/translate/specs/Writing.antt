@@ -11,7 +11,7 @@ use Rattle.machine.specs.Run.{record_with}
 use Rattle.machine.specs.declared.Record.{Record}
 use Rattle.translate.specs.Translation.{translate}
 use Rattle.translate.specs.declared.Translated.{Translated}
-use Rattle.translate.specs.declared.Cold.{Cold}
+use Rattle.answer.specs.declared.Answered.{Answered}
 
 -- the bytes of a sheet's code
 unfoldable pub code_of : Sheet → List ℕ
@@ -40,6 +40,10 @@ translate_into s buffer =
 -- "Cold start: state 0 active, its outputs, clock 0": flag 0 alone
 unfoldable pub cold_record : Sheet → Record
 cold_record a = record_with 1 (outputs_of a 0) 0
+
+-- the answer of the runner's cold start
+abbrev pub Cold : Type 0
+Cold = Answered Record
 
 -- "A cold start refused for its sheet returns a record of zeros."
 abbrev pub no_record : Refusal → Cold

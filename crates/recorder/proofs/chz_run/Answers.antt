@@ -4,9 +4,8 @@ use Prim.Native.Nat.{◌≤◌}
 use native.Mathlib.Omega.{arith}
 use borrow.Author.Rules.{rules}
 use Rattle.answer.specs.Number.{place_of, farthest}
-use Rattle.machine.specs.declared.Ran.{Ran}
 use Rattle.machine.specs.declared.Record.{Record}
-use Rattle.machine.specs.Run.{record_with, run_code}
+use Rattle.machine.specs.Run.{record_with, run_code, Ran}
 use Rattle.machine.proofs.PlaceLaws.{run-place-fits}
 use Rattle.recorder.specs.Answer.{Told}
 use Rattle.recorder.proofs.chz_run.Goals as goal

@@ -5,8 +5,7 @@ use native.Mathlib.Omega.{arith}
 use borrow.Author.Rules.{rules}
 use Rattle.answer.specs.Number.{place_of, farthest}
 use Rattle.scan.specs.declared.State.{State}
-use Rattle.scan.specs.declared.Scanned.{Scanned}
-use Rattle.scan.specs.Scan.{state_with, scan_sheet}
+use Rattle.scan.specs.Scan.{state_with, scan_sheet, Scanned}
 use Rattle.scan.proofs.PlaceLaws.{place-fits}
 use Rattle.recorder.specs.Answer.{Told}
 use Rattle.recorder.proofs.chz_scan.Goals as goal
