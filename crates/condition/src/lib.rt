@@ -11,7 +11,7 @@ ghost use Rattle.condition.specs.inside.Facts.{facts_of, neg_facts, join_facts, 
 use answer::Refusal;
 use bits::{Cursor, Read};
 
-// The forms that HOME-FORM and GATE ask for: input 0; NOT input 0; an AND whose first operand is input 0; and any other.
+// What HOME-FORM and GATE ask for: input 0; NOT input 0; an AND whose first operand is input 0; or any other form.
 #[derive(Clone, Copy, Debug, PartialEq, Eq)]
 pub enum Form {
     Other,

@@ -7,8 +7,9 @@ ghost use Rattle.walk.specs.inside.Walking.{walk_at, Down, Downward, Walks, Walk
 
 use words::Op;
 
-// The next bit; what waits, a digit of base 4 for each, the innermost in the lowest, below a 1: 1 NOT, 2 AND and 3 OR before their second operand,
-// 0 a parenthesis to close; and whether an operand has just been finished. A number, for a walk is copied at each item and there is no heap.
+// The next bit; what waits, a digit of base 4 for each, the innermost in the lowest, below a 1: 1 NOT, 2 AND and 3 OR
+// before their second operand, 0 a parenthesis to close; and whether an operand has just been finished.
+// What waits is packed into one number, since a walk is handed on by value at each item and nothing is on a heap.
 #[derive(Clone, Copy, Debug, PartialEq, Eq)]
 pub struct Walk {
     pub at: usize,
@@ -30,7 +31,8 @@ pub fn start(at: usize) -> Walk
 // Down to the next input, with the walk behind it: the operators before it wait.
 fn descend(s: &[u8], from: usize, waiting: u64) -> (u32, Walk)
     requires { Downward s.now from waiting }
-    ensures { ((is : List Item) → Down s.now from waiting is → Loads s.now is result.0 result.1) × (left result.1.at result.1.pending < left from waiting) }
+    ensures loads { (is : List Item) → Down s.now from waiting is → Loads s.now is result.0 result.1 }
+    ensures falls { left result.1.at result.1.pending < left from waiting }
 {
     let mut at = from;
     let mut pending = waiting;

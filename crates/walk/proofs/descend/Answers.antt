@@ -15,10 +15,11 @@ overflow_add-walk c = omega (arith, down-near (c.down.invariant.0 c.requires.ite
 pub returns-then-node-lt16 : goal.returns-then-node-lt16
 returns-then-node-lt16 c =
     let l = c.down in
-    let here = l.invariant.0 c.requires.items c.requires.down in (
-      (λ is d. down-loads c.number-node.ensures c.if-node-lt16.true (l.invariant.0 is d)),
-      left_down c.args.from c.args.waiting l.at l.pending l.invariant.1 (down-near here) (down-room here),
-    )
+    let here = l.invariant.0 c.requires.items c.requires.down in
+    record {
+      loads = λ is d. down-loads c.number-node.ensures c.if-node-lt16.true (l.invariant.0 is d);
+      falls = left_down c.args.from c.args.waiting l.at l.pending l.invariant.1 (down-near here) (down-room here);
+    }
 
 pub overflow_mul-pending : goal.overflow_mul-pending
 overflow_mul-pending c = omega (arith, down-room (c.down.invariant.0 c.requires.items c.requires.down))
