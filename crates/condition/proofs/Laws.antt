@@ -1,24 +1,29 @@
 -- Laws of reading a condition: how far the cursor and the count of nodes go, and what the code's steps find. Assumes nothing.
 use mathlib.Core.Path.{◌≡◌, refl, sym, ap, ◌∙◌, subst₃}
 use mathlib.Core.List.{List}
-use mathlib.Core.Bool.{Bool, true, false, ◌&&◌, ◌||◌}
+use mathlib.Core.Bool.{Bool, true, false}
 use Prim.Native.Nat.{ℕ, zero, suc, ◌+◌, ◌*◌, ◌-◌, ◌≤◌, ◌<◌}
 use native.Mathlib.Omega.{arith}
 use lib.ListN.{length}
 use lib.Dec.{ltb, leb, eqb}
-use borrow.Author.Tests.{leb-false, ltb-true, eq-eqb, ne_eqb}
+use borrow.Author.Tests.{leb-false, ltb-true}
+use denote.Enum.Bare.{sameb}
+use Rattle.condition.specs.contracts.Operator.{the_type}
 use Rattle.answer.specs.declared.Refusal.{Refusal}
 use Rattle.answer.specs.declared.Refusal.TheVariants.{Short, InputNo, Big}
 use Rattle.bits.specs.Field.{field_at}
 use Rattle.bits.specs.Read.{Ans, ok, no, read_field}
 use Rattle.bits.specs.declared.Cursor.{Cursor}
-use Rattle.bits.specs.declared.Got.TheVariants as got
+use Rattle.bits.specs.inside.Told.{told}
 use Rattle.bits.proofs.ReadLaws.{ok-next, ok-is, ok-no, bind_ok, guard_ok, field-read}
 use Rattle.condition.specs.Cond.{Cond, inp, neg, eval, word_count}
 use Rattle.condition.specs.Reading.{Counted, counted, input_at, joined, behind, operands_at, node_at, cond_at}
-use Rattle.condition.specs.inside.Facts.{pick_form, form_of, facts_of, forget, neg_facts, pick_value, join_facts}
+use Rattle.condition.specs.inside.Facts.{form_of, tag_of, facts_of, neg_facts, join_facts}
 use Rattle.condition.specs.declared.Facts.{Facts}
-use Rattle.condition.specs.declared.CondRead.TheVariants.{Next, Bad}
+use Rattle.condition.specs.declared.Operator.{Operator}
+use Rattle.condition.specs.declared.Operator.TheVariants.{Not, And, Or}
+use Rattle.std.specs.Prelude.{Some, None, Ok, Err}
+use Rattle.bits.proofs.ToldLaws.{told-got, told-bad}
 
 carry : (Q : Cond → ℕ → ℕ → Type 0) {x y : Counted} {a b : ℕ} → ok x a ≡ ok y b → Q x.tree x.count a → Q y.tree y.count b
 carry Q h q =
@@ -98,82 +103,78 @@ words-few room s k =
     room
 
 -- what the code's steps find
-pub cond_short : (room : ℕ) (s : List ℕ) (k seen at : ℕ) → field_at s at 2 ≡ got.Short → cond_at room s k seen at ≡ no (Short at)
+pub cond_short : (room : ℕ) (s : List ℕ) (k seen at : ℕ) → field_at s at 2 ≡ None → cond_at room s k seen at ≡ no (Short at)
 unfolding cond_at
 cond_short zero s k seen at e = rw e
 cond_short (suc room) s k seen at e = rw e
 
-pub cond-deep : (room : ℕ) (s : List ℕ) (k seen at tag : ℕ) (c : Cursor) → field_at s at 2 ≡ got.Field tag c → room ≡ 0
+pub cond-deep : (room : ℕ) (s : List ℕ) (k seen at tag : ℕ) (c : Cursor) → field_at s at 2 ≡ Some (tag, c) → room ≡ 0
     → cond_at room s k seen at ≡ no (Big at)
 unfolding cond_at
 cond-deep zero s k seen at tag c e z = rw e
 cond-deep (suc room) s k seen at tag c e z = absurd (omega arith)
 
-pub cond-node : (room : ℕ) (s : List ℕ) (k seen at tag : ℕ) (c : Cursor) → field_at s at 2 ≡ got.Field tag c → (room ≡ 0 → ⊥)
+pub cond-node : (room : ℕ) (s : List ℕ) (k seen at tag : ℕ) (c : Cursor) → field_at s at 2 ≡ Some (tag, c) → (room ≡ 0 → ⊥)
     → cond_at room s k seen at ≡ node_at (leb 31 seen) (eqb tag 0) (cond_at (room - 1) s k) s k tag seen at c.at
 unfolding cond_at
 cond-node zero s k seen at tag c e z = absurd (z refl)
 cond-node (suc room) s k seen at tag c e z = let p : suc room - 1 ≡ room = omega arith in rw (e, p)
 
+-- an operator as the code compares it
+pub same_not : (o : Operator) → sameb the_type o Not ≡ eqb (tag_of o) 1
+same_not Not = refl
+same_not And = refl
+same_not Or = refl
+
+pub same_and : (o : Operator) → sameb the_type o And ≡ eqb (tag_of o) 2
+same_and Not = refl
+same_and And = refl
+same_and Or = refl
+
 -- what the code says of a tree
 module _ (word : ℕ) where
-  -- the code's answer names a tree
-  pub forget-next : (g : Ans Counted) (c : Cursor) (f : Facts) → forget word g ≡ Next c f
-      → (x : Counted) × (g ≡ ok x c.at) × (f ≡ facts_of word x)
-  forget-next (ok x a) c f h =
-      let p : record { at = a } ≡ c = cc in
-      let q : facts_of word x ≡ f = cc in
-      let r : a ≡ c.at = ap (λ (y : Cursor). y.at) p in
-      (x, ap (λ (y : ℕ). ok x y) r, sym q)
-  forget-next (no r) c f h = let z : ◌≡◌ {A = ℕ} 0 1 = cc in absurd (omega arith)
-
-  -- or a refusal
-  pub forget-bad : (g : Ans Counted) (r : Refusal) → forget word g ≡ Bad r → g ≡ no r
-  forget-bad (ok x a) r h = let z : ◌≡◌ {A = ℕ} 0 1 = cc in absurd (omega arith)
-  forget-bad (no q) r h = let p : q ≡ r = cc in ap no p
-
   neg-facts : (x : Counted) → facts_of word (counted (neg x.tree) x.count) ≡ neg_facts (facts_of word x)
   unfolding eval word_count form_of
   neg-facts x = refl
 
-  join-facts : (b : Bool) (t u : Cond) (n : ℕ) → facts_of word (counted (joined b t u) n)
-      ≡ record { nodes = n; value = pick_value b (eval word t && eval word u) (eval word t || eval word u); form = pick_form (b && eqb (form_of t) 1) 3; words = word_count t + word_count u + 2 }
+  join-facts : (b : Bool) (t u : Cond) (m n : ℕ) → facts_of word (counted (joined b t u) n)
+      ≡ join_facts b (facts_of word (counted t m)) (facts_of word (counted u n))
   unfolding eval word_count form_of
-  join-facts true t u n = refl
-  join-facts false t u n = refl
+  join-facts true t u m n = refl
+  join-facts false t u m n = refl
 
-  module _ (read : ℕ → ℕ → Ans Counted) (tag seen at : ℕ) where
-    pub ops-bad : (r : Refusal) → forget word (read seen at) ≡ Bad r → forget word (operands_at read tag seen at) ≡ Bad r
+  module _ (read : ℕ → ℕ → Ans Counted) (seen at : ℕ) where
+    pub ops-bad : (tag : ℕ) (r : Refusal) → told (facts_of word) (read seen at) ≡ Err r → told (facts_of word) (operands_at read tag seen at) ≡ Err r
     unfolding operands_at
-    ops-bad r h = rw (forget-bad (read seen at) r h)
+    ops-bad tag r h = rw (told-bad (facts_of word) (read seen at) r h)
 
-    module _ (c : Cursor) (f : Facts) (h : forget word (read seen at) ≡ Next c f) where
-      pub ops-one : tag ≡ 1 → forget word (operands_at read tag seen at) ≡ Next c (neg_facts f)
+    module _ (tag : ℕ) (c : Cursor) (f : Facts) (h : told (facts_of word) (read seen at) ≡ Ok (f, c)) where
+      pub ops-one : eqb tag 1 ≡ true → told (facts_of word) (operands_at read tag seen at) ≡ Ok (neg_facts f, c)
       unfolding operands_at
       ops-one e =
-          let x = forget-next (read seen at) c f h in
-          rw (x.1, eq-eqb tag 1 e) (ap (Next c) (neg-facts x.0 ∙ ap neg_facts (sym x.2)))
+          let x = told-got (facts_of word) (read seen at) f c h in
+          rw (x.1, e) (ap (λ (y : Facts). Ok (y, c)) (neg-facts x.0 ∙ ap neg_facts (sym x.2)))
 
-      pub ops-two-bad : (tag ≡ 1 → ⊥) → (r : Refusal) → forget word (read f.nodes c.at) ≡ Bad r
-          → forget word (operands_at read tag seen at) ≡ Bad r
+      pub ops-two-bad : eqb tag 1 ≡ false → (r : Refusal) → told (facts_of word) (read f.nodes c.at) ≡ Err r
+          → told (facts_of word) (operands_at read tag seen at) ≡ Err r
       unfolding operands_at
       ops-two-bad e r q =
-          let x = forget-next (read seen at) c f h in
+          let x = told-got (facts_of word) (read seen at) f c h in
           let n : f.nodes ≡ x.0.count = ap (λ (y : Facts). y.nodes) x.2 in
-          rw (x.1, ne_eqb tag 1 e, ← n, forget-bad (read f.nodes c.at) r q)
+          rw (x.1, e, ← n, told-bad (facts_of word) (read f.nodes c.at) r q)
 
-      pub ops-two : (tag ≡ 1 → ⊥) → (d : Cursor) (g : Facts) → forget word (read f.nodes c.at) ≡ Next d g
-          → forget word (operands_at read tag seen at) ≡ Next d (join_facts tag f g)
+      pub ops-two : eqb tag 1 ≡ false → (d : Cursor) (g : Facts) → told (facts_of word) (read f.nodes c.at) ≡ Ok (g, d)
+          → told (facts_of word) (operands_at read tag seen at) ≡ Ok (join_facts (eqb tag 2) f g, d)
       unfolding operands_at
       ops-two e d g q =
-          let x = forget-next (read seen at) c f h in
-          let y = forget-next (read f.nodes c.at) d g q in
+          let x = told-got (facts_of word) (read seen at) f c h in
+          let y = told-got (facts_of word) (read f.nodes c.at) g d q in
           let n : f.nodes ≡ x.0.count = ap (λ (z : Facts). z.nodes) x.2 in
-          rw (x.1, ne_eqb tag 1 e, ← n, y.1)
-          (ap (Next d)
-          (join-facts (eqb tag 2) x.0.tree y.0.tree y.0.count
-          ∙ ap (λ (z : Facts). join_facts tag z (facts_of word y.0)) (sym x.2)
-          ∙ ap (join_facts tag f) (sym y.2)))
+          rw (x.1, e, ← n, y.1)
+          (ap (λ (z : Facts). Ok (z, d))
+          (join-facts (eqb tag 2) x.0.tree y.0.tree x.0.count y.0.count
+          ∙ ap (λ (z : Facts). join_facts (eqb tag 2) z (facts_of word y.0)) (sym x.2)
+          ∙ ap (join_facts (eqb tag 2) f) (sym y.2)))
 
 -- what the code's answer says of its cursor and its counts
 pub record Told (s : List ℕ) (seen at : ℕ) (c : Cursor) (f : Facts) : Type 0 where
@@ -183,9 +184,10 @@ pub record Told (s : List ℕ) (seen at : ℕ) (c : Cursor) (f : Facts) : Type 0
   pub few : f.nodes ≤ 31
   pub words : f.words ≤ 62
 
-pub told : (word room : ℕ) (s : List ℕ) (k seen at : ℕ) (c : Cursor) (f : Facts) → forget word (cond_at room s k seen at) ≡ Next c f → Told s seen at c f
-told word room s k seen at c f h =
-    let x = forget-next word (cond_at room s k seen at) c f h in
+pub facts-told : (word room : ℕ) (s : List ℕ) (k seen at : ℕ) (c : Cursor) (f : Facts) → told (facts_of word) (cond_at room s k seen at) ≡ Ok (f, c)
+    → Told s seen at c f
+facts-told word room s k seen at c f h =
+    let x = told-got (facts_of word) (cond_at room s k seen at) f c h in
     let n : f.nodes ≡ x.0.count = ap (λ (y : Facts). y.nodes) x.2 in
     let v : f.words ≡ word_count x.0.tree = ap (λ (y : Facts). y.words) x.2 in
     let w = cond-went room s k seen at x.0 c.at x.1 in

@@ -45,7 +45,11 @@ fn negated(f: Facts) -> Facts
     Facts {
         nodes: f.nodes,
         value: !f.value,
-        form: if matches!(f.form, Form::On) { Form::Off } else { Form::Other },
+        form: if matches!(f.form, Form::On) {
+            Form::Off
+        } else {
+            Form::Other
+        },
         words: f.words + 1,
     }
 }
@@ -57,8 +61,16 @@ fn joined(and: bool, f: Facts, g: Facts) -> Facts
 {
     Facts {
         nodes: g.nodes,
-        value: if and { f.value & g.value } else { f.value | g.value },
-        form: if and & matches!(f.form, Form::On) { Form::Gated } else { Form::Other },
+        value: if and {
+            f.value & g.value
+        } else {
+            f.value | g.value
+        },
+        form: if and & matches!(f.form, Form::On) {
+            Form::Gated
+        } else {
+            Form::Other
+        },
         words: f.words + g.words + 2,
     }
 }
