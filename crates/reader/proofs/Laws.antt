@@ -5,7 +5,7 @@ use mathlib.Core.Bool.{Bool, true, false, not}
 use Prim.Native.Nat.{ℕ, zero, suc, ◌+◌, ◌*◌, ◌-◌, ◌/◌, ◌%◌, ◌^◌, ◌≤◌, ◌<◌}
 use native.Mathlib.Numerals.{add-one}
 use native.Mathlib.Omega.{arith}
-use lib.ListN.{length, get_or, set}
+use lib.ListN.{length, get_or}
 use lib.Dec.{ltb, eqb}
 use borrow.Author.Tests.{eq-eqb, ne_eqb}
 use Rattle.std.specs.Prelude.{Ok, Err, Some, None}

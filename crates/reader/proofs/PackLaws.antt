@@ -1,6 +1,6 @@
 -- What is packed comes back. Assumes nothing.
 use mathlib.Core.Path.{◌≡◌, refl}
-use Prim.Native.Nat.{ℕ, ◌+◌, ◌*◌, ◌/◌, ◌%◌, ◌<◌}
+use Prim.Native.Nat.{◌+◌, ◌*◌, ◌/◌, ◌%◌, ◌<◌}
 use native.Mathlib.Omega.{arith}
 use Rattle.condition.specs.declared.Form.{Form}
 use Rattle.condition.specs.declared.Form.TheVariants.{Other, On, Off, Gated}

@@ -5,7 +5,7 @@ use native.Mathlib.Omega.{arith}
 use lib.ListN.{length}
 use Rattle.std.proofs.lemmas.Result.{err_from_is_err_and}
 use Rattle.bits.specs.Word.{word_of}
-use Rattle.bits.specs.Read.{ok, upto}
+use Rattle.bits.specs.Read.{upto}
 use Rattle.bits.proofs.ToldLaws.{told-got, told-bad}
 use Rattle.bits.proofs.ReadLaws.{upto-more, upto-bad, upto-length}
 use Rattle.reader.specs.Reading.{row_at}

@@ -1,9 +1,9 @@
 -- `reader::read_sheet` meets its contract. Assumes nothing.
-use mathlib.Core.Path.{◌≡◌, refl, sym, ◌∙◌}
+use mathlib.Core.Path.{refl, sym, ◌∙◌}
 use Prim.Native.Nat.{ℕ, ◌≤◌, ◌<◌}
 use mathlib.Core.List.{List}
 use native.Mathlib.Omega.{arith}
-use lib.ListN.{length, take, get_or-append}
+use lib.ListN.{length, get_or-append}
 use Rattle.std.proofs.lemmas.List.{length-take-le}
 use Rattle.std.proofs.lemmas.Result.{err_from_is_err_and}
 use Rattle.std.specs.Prelude.{Ok}
@@ -112,11 +112,11 @@ returns-then-ends_here c =
         outputs = refl;
         transitions = sym many;
         row = λ i l.
-        let low : i < length ws = omega arith in
-        get_or-append ws _ 0 i low ∙ rows.2 i low;
+            let low : i < length ws = omega arith in
+            get_or-append ws _ 0 i low ∙ rows.2 i low;
         arrow = λ i l.
-        let low : i < length ts = omega arith in
-        rw (get_or-append ts _ 0 i low) (arrows.2 i low);
+            let low : i < length ts = omega arith in
+            rw (get_or-append ts _ 0 i low) (arrows.2 i low);
       },
     )
 

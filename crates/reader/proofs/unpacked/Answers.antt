@@ -12,9 +12,9 @@ returns c =
     let form = c.args.w / 16777216 / 32768 / 64 % 4 in
     let e : c.match-form-rem4.result ≡ form_at form =
     elim c.match-form-rem4.branch [
-      in-0 w ↦ rw w.in-0.is w.result-is
-    | in-1 w ↦ rw w.in-1.is w.result-is
-    | in-2 w ↦ rw w.in-2.is w.result-is
-    | in_default w ↦ let three : form ≡ 3 = omega arith in rw three w.result-is
+      | in-0 w ↦ rw w.in-0.is w.result-is
+      | in-1 w ↦ rw w.in-1.is w.result-is
+      | in-2 w ↦ rw w.in-2.is w.result-is
+      | in_default w ↦ let three : form ≡ 3 = omega arith in rw three w.result-is
     ] in
     rw e refl
