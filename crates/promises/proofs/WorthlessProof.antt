@@ -104,7 +104,7 @@ ff-end (suc n) =
 
 ff-refused : (n m : ℕ) → check_code (take n (ff m)) ≡ Ok tt → ⊥
 unfolding check_code
-ff-refused n m h = accepted-refused {why = CodeEnd} h (rw ((all-ff n m).1, ff-end (all-ff n m).0) refl)
+ff-refused n m h = accepted-refused {r = CodeEnd} h (rw ((all-ff n m).1, ff-end (all-ff n m).0) refl)
 
 -- demand 3 fails with a translator that leaves one of these
 never-moves : (f : Translator) → Demand3 f run_code → WritesEnd f → ⊥
