@@ -1,8 +1,8 @@
 -- The runner: "The runner refuses faulty code, else brings the clock forward as above and starts at word 0."
 use Rattle.std.specs.Prelude.{◌≡◌, List, map, ℕ, Ok, Err}
 use Rattle.answer.specs.Checked.{Checked}
+use Rattle.answer.specs.declared.Answered.{Answered}
 use Rattle.machine.specs.declared.Record.{Record}
-use Rattle.machine.specs.declared.Ran.{Ran}
 use Rattle.words.specs.Word.{decode, words}
 use Rattle.machine.specs.Machine.{Mach, mach_with, run_scan}
 use Rattle.faults.specs.Check.{check_code}
@@ -18,6 +18,9 @@ abbrev pub record_of : Mach → Record
 record_of m = record_with m.flags m.outputs m.clock
 
 -- a scan's answer
+abbrev pub Ran : Type 0
+Ran = Answered Record
+
 abbrev pub ran_with : Checked → Record → Ran
 ran_with verdict r = record { verdict = verdict; «record» = r }
 
