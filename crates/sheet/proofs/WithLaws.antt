@@ -11,10 +11,10 @@ use Rattle.reader.specs.Sheet.{Sheet}
 use Rattle.reader.specs.Reading.{read_sheet}
 use Rattle.sheet.specs.Judging.{judge, judge_read, check_sheet, judged_or, read_or, with_sheet}
 
-refused-is : {q r : Refusal} → Err q ≡ Err r → q ≡ r
+refused-is : {q r : Refusal} → ◌≡◌ {A = Checked} (Err q) (Err r) → q ≡ r
 refused-is h = cc
 
-pub accepted-refused : {A : Type 0} {r : Refusal} → (Ok tt) ≡ Err r → A
+pub accepted-refused : {A : Type 0} {r : Refusal} → ◌≡◌ {A = Checked} (Ok tt) (Err r) → A
 accepted-refused h = let z : ◌≡◌ {A = ℕ} 0 1 = cc in absurd (omega arith)
 
 judged-refused : {B : Type 0} (v : Checked) (why : Refusal) (refuse : Refusal → B) (b : B) → v ≡ Err why → judged_or v refuse b ≡ refuse why
@@ -34,7 +34,7 @@ with-refused s why refuse go e = read-refused (read_sheet s) why refuse go e
 
 -- an accepted one by the sheet that its bytes are
 pub with-accepted : {B : Type 0} (s : List ℕ) (a : Sheet) (end : ℕ) (refuse : Refusal → B) (go : Sheet → B) → read_sheet s ≡ ok a end
-    → judge a ≡ (Ok tt) → with_sheet s refuse go ≡ go a
+    → judge a ≡ Ok tt → with_sheet s refuse go ≡ go a
 unfolding with_sheet
 with-accepted s a end refuse go e j = rw (e, j)
 
