@@ -13,7 +13,6 @@ use lib.Dec.{eqb}
 use lib.ListN.{length, get_or, set, take}
 use Rattle.std.proofs.lemmas.List.{length-take-le, get_or-take}
 use lib.Seq.{get_or-set_same, get_or-set_other}
-use Rattle.answer.specs.Lowest.{any_below, first_below}
 use Rattle.answer.proofs.Laws.{any-hit, any_same, first-same}
 use Rattle.reader.specs.inside.Packing.{unpack, arrow_at}
 use Rattle.sheet.specs.inside.Arrows.{besides, clash_arrows, clash_below, first_clash, key_of, Keys, alike_below, first_alike}

@@ -65,8 +65,11 @@ module _ (s rows arrows : List ℕ) (a : Sheet) (k : Held s rows arrows a) where
   unfolding has_home lacks_home
   home_same =
       first-same (lacks_home_arrow arrows) (lacks_home a) a.states
-      λ n l. rw (k.transitions, any_same (λ i. home_arrow n (arrow_at arrows i)) (λ i. goes_home n (transition_of a i)) (count a)
-      λ i b. rw ((k.arrow i b).source, (k.arrow i b).destination))
+      λ n l. rw (
+        k.transitions,
+        any_same (λ i. home_arrow n (arrow_at arrows i)) (λ i. goes_home n (transition_of a i)) (count a)
+            λ i b. rw ((k.arrow i b).source, (k.arrow i b).destination),
+      )
 
   activity-same : first_below (activity_row rows) (length rows) ≡ first_below (wrong_activity a) a.states
   activity-same =

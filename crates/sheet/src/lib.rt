@@ -47,7 +47,9 @@ fn breaks(rule: Rule, t: Arrow) -> bool
 fn first_arrow(arrows: &[u64], rule: Rule) -> Option<usize>
     ensures { result ≡ first_break rule arrows.now }
 {
-    arrows.iter().position(|w| breaks(rule, reader::unpacked(*w)))
+    arrows
+        .iter()
+        .position(|w| breaks(rule, reader::unpacked(*w)))
 }
 
 // A transition's key: two of them are equal where the sources are and, for PAIR the destinations, for RANK the priorities.
@@ -151,7 +153,10 @@ fn judge_decoded(decoded: &Decoded) -> Checked
     refuse(first_arrow(arrows, Rule::Loop), Refusal::Loop)?;
     refuse(first_clash(arrows, Clash::Pair), Refusal::Pair)?;
     refuse(first_clash(arrows, Clash::Rank), Refusal::Rank)?;
-    refuse(first_no_home(arrows, decoded.header.states), Refusal::NoHome)?;
+    refuse(
+        first_no_home(arrows, decoded.header.states),
+        Refusal::NoHome,
+    )?;
     refuse(first_arrow(arrows, Rule::HomeForm), Refusal::HomeForm)?;
     refuse(first_arrow(arrows, Rule::Gate), Refusal::Gate)?;
     refuse(first_activity(rows), Refusal::Activity)

@@ -22,6 +22,6 @@ loop-w-preserved c =
     let t = c.unpacked-t.ensures in
     let before = c.loop-w.invariant in
     elim c.if-t-eq0.branch [
-    | then-t-eq0 w ↦ rw (w.word-is, w.set_bit-word.ensures, w.from.ensures, t) (homes_set arrows i _ before (rw t at w.if-t-eq0.true))
-    | else-t-eq0 w ↦ rw w.word-is (homes-keep arrows i _ before (rw t at w.if-t-eq0.false))
+      | then-t-eq0 w ↦ rw (w.word-is, w.set_bit-word.ensures, w.from.ensures, t) (homes_set arrows i _ before (rw t at w.if-t-eq0.true))
+      | else-t-eq0 w ↦ rw w.word-is (homes-keep arrows i _ before (rw t at w.if-t-eq0.false))
     ]
