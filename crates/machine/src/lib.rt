@@ -3,7 +3,6 @@
 
 ghost use Rattle.std.specs.Prelude.{◌≡◌, false, List, [], map, ◌+◌, ◌*◌, ◌/◌, ◌%◌, ◌<◌};
 ghost use mir.Val.{bool_byte};
-ghost use Rattle.bits.specs.Word.{put_bit};
 ghost use Rattle.words.specs.Op.{op_no};
 ghost use Rattle.words.specs.Word.{known, decode, words};
 ghost use Rattle.faults.specs.Check.{check_code};
@@ -36,14 +35,6 @@ pub fn record_with(flags: u32, outputs: u16, clock: u32) -> Record
     }
 }
 
-// The word with bit i made on or off.
-fn put_bit(w: u32, i: u32, on: bool) -> u32
-    requires { i < 32 }
-    ensures { result ≡ put_bit w i on }
-{
-    if on { bits::set_bit(w, i) } else { bits::clear_bit(w, i) }
-}
-
 // The machine between two words. What is put aside stands in base 4, the last one in the lowest digit: 2 for AND(, 1 for a true result.
 #[derive(Clone, Copy, Debug, PartialEq, Eq)]
 struct Midway {
@@ -69,7 +60,11 @@ impl Midway {
     {
         let top = self.aside % 4;
         let kept = top % 2 == 1;
-        self.result = if top < 2 { kept | self.result } else { kept & self.result };
+        self.result = if top < 2 {
+            kept | self.result
+        } else {
+            kept & self.result
+        };
         self.aside /= 4;
     }
 
@@ -80,7 +75,7 @@ impl Midway {
         ensures { let m = self.old in self.new ≡ record m { «record» = record_of (flag_to m.result (mach_in m) i on) } }
     {
         if self.result {
-            self.record.flags = put_bit(self.record.flags, i, on);
+            self.record.flags = bits::put_bit(self.record.flags, i, on);
         }
     }
 
@@ -91,7 +86,7 @@ impl Midway {
         ensures { let m = self.old in self.new ≡ record m { «record» = record_of (out_to m.result (mach_in m) i on) } }
     {
         if self.result {
-            self.record.outputs = put_bit(self.record.outputs as u32, i, on) as u16;
+            self.record.outputs = bits::put_bit(self.record.outputs as u32, i, on) as u16;
         }
     }
 
