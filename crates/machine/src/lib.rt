@@ -60,7 +60,11 @@ impl Midway {
     {
         let top = self.aside % 4;
         let kept = top % 2 == 1;
-        self.result = if top < 2 { kept | self.result } else { kept & self.result };
+        self.result = if top < 2 {
+            kept | self.result
+        } else {
+            kept & self.result
+        };
         self.aside /= 4;
     }
 
