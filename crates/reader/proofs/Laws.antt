@@ -5,35 +5,31 @@ use mathlib.Core.Bool.{Bool, true, false, not}
 use Prim.Native.Nat.{ℕ, zero, suc, ◌+◌, ◌*◌, ◌-◌, ◌/◌, ◌%◌, ◌^◌, ◌≤◌, ◌<◌}
 use native.Mathlib.Numerals.{add-one}
 use native.Mathlib.Omega.{arith}
-use lib.ListN.{length, get_or, set}
+use lib.ListN.{length, get_or}
 use lib.Dec.{ltb, eqb}
 use borrow.Author.Tests.{eq-eqb, ne_eqb}
+use Rattle.std.specs.Prelude.{Ok, Err, Some, None}
+use Rattle.std.specs.declared.result.Result.{Result}
 use Rattle.answer.specs.declared.Refusal.{Refusal}
 use Rattle.answer.specs.declared.Refusal.TheVariants as refuse
-use Rattle.bits.specs.Field.{field_at, num_at}
+use Rattle.bits.specs.Field.{Got, field_at, num_at}
 use Rattle.bits.specs.Word.{word_of, bits_of}
 use Rattle.bits.specs.Read.{Ans, ok, no, bind, guard, read_field, upto}
+use Rattle.bits.specs.inside.Told.{told}
 use Rattle.bits.specs.declared.Cursor.{Cursor}
-use Rattle.bits.specs.declared.Got.TheVariants as got
 use Rattle.bits.proofs.FieldLaws.{field-here}
 use Rattle.bits.proofs.WordLaws.{bit-no}
+use Rattle.bits.proofs.ToldLaws.{told-got}
 use Rattle.bits.proofs.ReadLaws.{bind-both, ok-next, ok-is, bind_ok, guard_ok, field-read, upto_next, upto-length}
 use Rattle.condition.specs.Reading.{condition_at}
 use Rattle.condition.specs.declared.Facts.{Facts}
-use Rattle.condition.specs.declared.CondRead.{CondRead}
-use Rattle.condition.specs.declared.CondRead.TheVariants as condread
 use Rattle.condition.proofs.Laws.{cond-went}
 use Rattle.reader.specs.Sheet.{Transition, Sheet, count, no_transition}
 use Rattle.reader.specs.Reading.{read_header, row_at, transition_at, ends_at, read_sheet}
 use Rattle.reader.specs.inside.Packing.{unpack, arrow_at}
-use Rattle.reader.specs.inside.Decoding.{Names, names_at, rest_at, HeadIs, forget_row, forget_names, ArrowIs, Holds, HoldsRows, HoldsArrows, Copy, Answers}
+use Rattle.reader.specs.inside.Decoding.{Names, pair_of, names_at, rest_at, ArrowIs, Holds, HoldsRows, HoldsArrows, Copy, Answers}
 use Rattle.reader.specs.declared.Header.{Header}
 use Rattle.reader.specs.declared.Decoded.{Decoded}
-use Rattle.reader.specs.declared.How.{How}
-use Rattle.reader.specs.declared.How.TheVariants as how
-use Rattle.reader.specs.declared.HeadRead.{HeadRead}
-use Rattle.reader.specs.declared.RowRead.TheVariants as rowread
-use Rattle.reader.specs.declared.NamesRead.TheVariants as namesread
 
 -- a test and what follows it may be taken apart
 bind-guard : {A B : Type 0} (t : Bool) (r : Refusal) (x : Ans A) (f : A → ℕ → Ans B) → bind (guard t r x) f ≡ guard t r (bind x f)
@@ -104,95 +100,51 @@ row_next s l at {row} {next} h =
 cursor-is : {a : ℕ} {c : Cursor} → record { at = a } ≡ c → a ≡ c.at
 cursor-is h = ap (λ (x : Cursor). x.at) h
 
-done-is : {a b : Cursor} → how.Done a ≡ how.Done b → a ≡ b
+done-is : {A : Type 0} {a b : A} → ◌≡◌ {A = Result A Refusal} (Ok a) (Ok b) → a ≡ b
 done-is h = cc
 
-bad-is : {a b : Refusal} → how.Bad a ≡ how.Bad b → a ≡ b
+bad-is : {A : Type 0} {a b : Refusal} → ◌≡◌ {A = Result A Refusal} (Err a) (Err b) → a ≡ b
 bad-is h = cc
 
-done-bad : {A : Type 0} {a : Cursor} {b : Refusal} → how.Done a ≡ how.Bad b → A
+done-bad : {A B : Type 0} {a : A} {b : Refusal} → ◌≡◌ {A = Result A Refusal} (Ok a) (Err b) → B
 done-bad h = let z : ◌≡◌ {A = ℕ} 0 1 = cc in absurd (omega arith)
 
-pub header-done : (x : Ans Header) (r : HeadRead) (c : Cursor) → HeadIs x r → r.how ≡ how.Done c → x ≡ ok r.header c.at
-header-done (ok h next) r c e d =
-    let same : h ≡ r.header = sym (ap (λ (y : HeadRead). y.header) e) in
-    let here : how.Done (record { at = next }) ≡ how.Done c = sym (ap (λ (y : HeadRead). y.how) e) ∙ d in
-    ap (λ (y : Header). ok y next) same ∙ ap (λ (m : ℕ). ok r.header m) (cursor-is (done-is here))
-header-done (no why) r c e d = done-bad (sym d ∙ e)
+pub header-got : (x : Ans Header) (h : Header) (c : Cursor) → told (λ y. y) x ≡ Ok (h, c) → x ≡ ok h c.at
+header-got x h c e = let y = told-got (λ (z : Header). z) x h c e in y.1 ∙ ap (λ (z : Header). ok z c.at) (sym y.2)
 
-pub header-bad : (x : Ans Header) (r : HeadRead) (q : Refusal) → HeadIs x r → r.how ≡ how.Bad q → x ≡ no q
-header-bad (ok h next) r q e d = done-bad (sym (ap (λ (y : HeadRead). y.how) e) ∙ d)
-header-bad (no why) r q e d = ap no (bad-is (sym e ∙ d))
+pub names-got : (x : Ans Names) (a b : ℕ) (c : Cursor) → told pair_of x ≡ Ok ((a, b), c) → x ≡ ok (record { source = a; destination = b }) c.at
+names-got x a b c h =
+    let y = told-got pair_of x (a, b) c h in
+    y.1 ∙ ap (λ (p : ℕ × ℕ). ok (record { source = p.0; destination = p.1 }) c.at) (sym y.2)
 
-pub row-got : (x : Ans (List Bool)) (w : ℕ) (c : Cursor) → forget_row x ≡ rowread.Row w c → (row : List Bool) × (x ≡ ok row c.at) × (w ≡ word_of row)
-row-got (ok row next) w c e =
-    let p : w ≡ word_of row = cc in
-    let q : record { at = next } ≡ c = cc in
-    (row, ap (λ (m : ℕ). ok row m) (cursor-is q), p)
-row-got (no why) w c e = let z : ◌≡◌ {A = ℕ} 0 1 = cc in absurd (omega arith)
+module _ (s : List ℕ) (k : ℕ) where
+  pub arrow-got : (x : Ans Transition) (word : ℕ) (f : Facts) (c : Cursor) → ArrowIs s k x (Ok (f, c)) word
+      → (t : Transition) × (x ≡ ok t c.at) × Holds s k (unpack word) t
+  arrow-got (ok t next) word f c h = (t, ap (λ (m : ℕ). ok t m) (cursor-is (ap (λ (y : Facts × Cursor). y.1) (done-is (sym h.1)))), h.2)
+  arrow-got (no why) word f c h = done-bad h
 
-pub row-bad : (x : Ans (List Bool)) (q : Refusal) → forget_row x ≡ rowread.Bad q → x ≡ no q
-row-bad (ok g next) q e = let z : ◌≡◌ {A = ℕ} 0 1 = cc in absurd (omega arith)
-row-bad (no p) q e = let r : p ≡ q = cc in ap no r
+  pub arrow-bad : (x : Ans Transition) (word : ℕ) (q : Refusal) → ArrowIs s k x (Err q) word → x ≡ no q
+  arrow-bad (ok t next) word q h = done-bad (sym h.1)
+  arrow-bad (no p) word q h = ap no (bad-is (sym h))
 
-pub names-got : (x : Ans Names) (a b : ℕ) (c : Cursor) → forget_names x ≡ namesread.Names a b c → x ≡ ok (record { source = a; destination = b }) c.at
-names-got (ok y next) a b c e =
-    let p : y.source ≡ a = cc in
-    let r : y.destination ≡ b = cc in
-    let q : record { at = next } ≡ c = cc in
-    ap (λ (m : ℕ). ok (record { source = m; destination = y.destination }) next) p
-    ∙ ap (λ (m : ℕ). ok (record { source = a; destination = m }) next) r
-    ∙ ap (λ (m : ℕ). ok (record { source = a; destination = b }) m) (cursor-is q)
-names-got (no why) a b c e = let z : ◌≡◌ {A = ℕ} 0 1 = cc in absurd (omega arith)
+  pub arrows-done : (x : Ans (List Transition)) (arrows : List ℕ) (c : Cursor) → HoldsArrows s k x (Ok c) arrows
+      → (ts : List Transition) × (x ≡ ok ts c.at) × ((i : ℕ) → i < length arrows → Holds s k (arrow_at arrows i) (get_or ts i no_transition))
+  arrows-done (ok ts next) arrows c h = (ts, ap (λ (n : ℕ). ok ts n) (cursor-is (done-is (sym h.0))), h.1)
+  arrows-done (no why) arrows c h = done-bad h
 
-pub names-bad : (x : Ans Names) (q : Refusal) → forget_names x ≡ namesread.Bad q → x ≡ no q
-names-bad (ok g next) q e = let z : ◌≡◌ {A = ℕ} 0 1 = cc in absurd (omega arith)
-names-bad (no p) q e = let r : p ≡ q = cc in ap no r
+  pub arrows-bad : (x : Ans (List Transition)) (arrows : List ℕ) (q : Refusal) → HoldsArrows s k x (Err q) arrows → x ≡ no q
+  arrows-bad (ok ts next) arrows q h = done-bad (sym h.0)
+  arrows-bad (no why) arrows q h = ap no (bad-is (sym h))
 
-next-cursor : {c d : Cursor} {f g : Facts} → condread.Next c f ≡ condread.Next d g → c ≡ d
-next-cursor h = cc
+-- rows that were read, or refused
+pub rows-done : (x : Ans (List (List Bool))) (rows : List ℕ) (c : Cursor) → HoldsRows x (Ok c) rows
+    → (xs : List (List Bool)) × (x ≡ ok xs c.at) × ((i : ℕ) → i < length rows → get_or rows i 0 ≡ word_of (get_or xs i []))
+rows-done (ok xs next) rows c h = (xs, ap (λ (m : ℕ). ok xs m) (cursor-is (done-is (sym h.0))), h.1)
+rows-done (no why) rows c h = done-bad h
 
-next-bad : {A : Type 0} {c : Cursor} {f : Facts} {q : Refusal} → condread.Next c f ≡ condread.Bad q → A
-next-bad h = let z : ◌≡◌ {A = ℕ} 0 1 = cc in absurd (omega arith)
-
-bad-arrow : {p q : Refusal} → condread.Bad p ≡ condread.Bad q → p ≡ q
-bad-arrow h = cc
-
-module _ (s : List ℕ) (k : ℕ) (x : Ans Transition) (i : ℕ) (before : List ℕ) (r : CondRead) (after : List ℕ) where
-  pub arrow-got : (c : Cursor) (f : Facts) → ArrowIs s k x i before r after → r ≡ condread.Next c f
-      → (t : Transition) × (word : ℕ) × (x ≡ ok t c.at) × (after ≡ set before i word) × Holds s k (unpack word) t
-  arrow-got c f h e = go x h
-    where
-      go : (x : Ans Transition) → ArrowIs s k x i before r after
-          → (t : Transition) × (word : ℕ) × (x ≡ ok t c.at) × (after ≡ set before i word) × Holds s k (unpack word) t
-      go (ok t next) h = (t, h.0, ap (λ (m : ℕ). ok t m) (cursor-is (next-cursor (sym h.2 ∙ e))), h.3, h.4)
-      go (no why) h = next-bad (sym e ∙ h)
-
-  pub arrow-bad : (q : Refusal) → ArrowIs s k x i before r after → r ≡ condread.Bad q → x ≡ no q
-  arrow-bad q h e = go x h
-    where
-      go : (x : Ans Transition) → ArrowIs s k x i before r after → x ≡ no q
-      go (ok t next) h = next-bad (sym h.2 ∙ e)
-      go (no p) h = ap no (bad-arrow (sym h ∙ e))
-
--- rows and transitions that were read, or refused
-pub rows-done : (x : Ans (List (List Bool))) (n : ℕ) (r : How) (rows : List ℕ) (c : Cursor) → HoldsRows x n r rows → r ≡ how.Done c
-    → (xs : List (List Bool)) × (x ≡ ok xs c.at) × ((i : ℕ) → i < n → get_or rows i 0 ≡ word_of (get_or xs i []))
-rows-done (ok xs next) n r rows c h e = (xs, ap (λ (m : ℕ). ok xs m) (cursor-is (done-is (sym h.0 ∙ e))), h.1)
-rows-done (no why) n r rows c h e = done-bad (sym e ∙ h)
-
-pub rows-bad : (x : Ans (List (List Bool))) (n : ℕ) (r : How) (rows : List ℕ) (q : Refusal) → HoldsRows x n r rows → r ≡ how.Bad q → x ≡ no q
-rows-bad (ok xs next) n r rows q h e = done-bad (sym h.0 ∙ e)
-rows-bad (no why) n r rows q h e = ap no (bad-is (sym h ∙ e))
-
-pub arrows-done : (s : List ℕ) (k : ℕ) (x : Ans (List Transition)) (m : ℕ) (r : How) (arrows : List ℕ) (c : Cursor) → HoldsArrows s k x m r arrows → r ≡ how.Done c
-    → (ts : List Transition) × (x ≡ ok ts c.at) × (length arrows ≡ 128) × ((i : ℕ) → i < m → Holds s k (arrow_at arrows i) (get_or ts i no_transition))
-arrows-done s k (ok ts next) m r arrows c h e = (ts, ap (λ (n : ℕ). ok ts n) (cursor-is (done-is (sym h.0 ∙ e))), h.1, h.2)
-arrows-done s k (no why) m r arrows c h e = done-bad (sym e ∙ h)
-
-pub arrows-bad : (s : List ℕ) (k : ℕ) (x : Ans (List Transition)) (m : ℕ) (r : How) (arrows : List ℕ) (q : Refusal) → HoldsArrows s k x m r arrows → r ≡ how.Bad q → x ≡ no q
-arrows-bad s k (ok ts next) m r arrows q h e = done-bad (sym h.0 ∙ e)
-arrows-bad s k (no why) m r arrows q h e = ap no (bad-is (sym h ∙ e))
+pub rows-bad : (x : Ans (List (List Bool))) (rows : List ℕ) (q : Refusal) → HoldsRows x (Err q) rows → x ≡ no q
+rows-bad (ok xs next) rows q h = done-bad (sym h.0)
+rows-bad (no why) rows q h = ap no (bad-is (sym h))
 
 -- a row's word, one output more
 pub word_more : (v w : ℕ) → word_of (bits_of w v) * 2 + v / 2 ^ w % 2 ≡ word_of (bits_of (w + 1) v)
@@ -209,9 +161,9 @@ module _ (s : List ℕ) (at : ℕ) where
   unfolding ends_at
   ends-spare h = rw (eq-eqb _ _ h)
 
-pub not_short : (s : List ℕ) (at w : ℕ) → at + w ≤ length s * 8 → field_at s at w ≡ got.Short → ⊥
+pub not_short : (s : List ℕ) (at w : ℕ) → at + w ≤ length s * 8 → field_at s at w ≡ None → ⊥
 not_short s at w h e =
-    let f : got.Field (num_at s at w) (record { at = at + w }) ≡ got.Short = sym (field-here s at w h) ∙ e in
+    let f : ◌≡◌ {A = Got} (Some (num_at s at w, record { at = at + w })) None = sym (field-here s at w h) ∙ e in
     let z : ◌≡◌ {A = ℕ} 0 1 = cc in
     omega arith
 
@@ -256,14 +208,13 @@ pub transitions-next : (s : List ℕ) (n k at m : ℕ) {ts : List Transition} {b
 transitions-next s n k at m h e = omega (arith, upto_next (transition_at s n k) 227 (λ a t b e. transition-next s n k a e) at m e)
 
 -- a sheet that was read, or refused
-pub answers-done : (s : List ℕ) (x : Ans Sheet) (d : Decoded) (rows arrows : List ℕ) (c : Cursor) → Answers s x d rows arrows → d.how ≡ how.Done c
-    → (a : Sheet) × (x ≡ ok a c.at) × Copy s d rows arrows a
-answers-done s (ok a end) d rows arrows c h e = (a, ap (λ (m : ℕ). ok a m) (cursor-is (done-is (sym h.0 ∙ e))), h.1)
-answers-done s (no why) d rows arrows c h e = done-bad (sym e ∙ h)
+pub answers-done : (s : List ℕ) (x : Ans Sheet) (d : Decoded) (c : Cursor) → Answers s x (Ok c) d → (a : Sheet) × (x ≡ ok a c.at) × Copy s d a
+answers-done s (ok a end) d c h = (a, ap (λ (m : ℕ). ok a m) (cursor-is (done-is (sym h.0))), h.1)
+answers-done s (no why) d c h = done-bad h
 
-pub answers-bad : (s : List ℕ) (x : Ans Sheet) (d : Decoded) (rows arrows : List ℕ) (q : Refusal) → Answers s x d rows arrows → d.how ≡ how.Bad q → x ≡ no q
-answers-bad s (ok a end) d rows arrows q h e = done-bad (sym h.0 ∙ e)
-answers-bad s (no why) d rows arrows q h e = ap no (bad-is (sym h ∙ e))
+pub answers-bad : (s : List ℕ) (x : Ans Sheet) (d : Decoded) (q : Refusal) → Answers s x (Err q) d → x ≡ no q
+answers-bad s (ok a end) d q h = done-bad (sym h.0)
+answers-bad s (no why) d q h = ap no (bad-is (sym h))
 
 -- a sheet that was read has at most 32 states and 128 transitions
 pub read-sizes : (s : List ℕ) (a : Sheet) (end : ℕ) → read_sheet s ≡ ok a end → (a.states ≤ 32) × (count a ≤ 128)

@@ -37,6 +37,7 @@ pub struct Arrow {
 }
 
 // A sheet decoded once, in a place that the caller lends: its header, each state's outputs as a word, its arrows packed.
+#[derive(Drop)]
 pub struct Decoded {
     pub header: Header,
     pub rows: [u16; 32],

@@ -10,49 +10,35 @@ use native.Mathlib.Numerals.{add-one}
 use native.Mathlib.Omega.{arith}
 use borrow.Author.Tests.{eqb-true, eqb-false, eq-eqb, ne_eqb}
 use lib.Dec.{eqb}
-use lib.ListN.{length, get_or, set}
+use lib.ListN.{length, get_or, set, take}
+use Rattle.std.proofs.lemmas.List.{length-take-le, get_or-take}
 use lib.Seq.{get_or-set_same, get_or-set_other}
-use Rattle.answer.specs.Lowest.{any_below, first_below}
-use Rattle.answer.proofs.Laws.{any-more, any-hit, any_same, first_more, first-hit, first-same}
+use Rattle.answer.proofs.Laws.{any-hit, any_same, first-same}
 use Rattle.reader.specs.inside.Packing.{unpack, arrow_at}
 use Rattle.sheet.specs.inside.Arrows.{besides, clash_arrows, clash_below, first_clash, key_of, Keys, alike_below, first_alike}
 use Rattle.sheet.specs.declared.Clash.{Clash}
 use Rattle.sheet.specs.declared.Clash.TheVariants as clash
-use Rattle.sheet.proofs.SearchLaws.{search-end}
+use Rattle.sheet.proofs.SearchLaws.{any-none, first-none, first-at}
 
 module _ (keys : List ℕ) where
-  pub clash-start : first_alike keys 0 ≡ None
-  unfolding first_alike first_below
-  clash-start = refl
+  -- no key before j is that of an earlier one
+  abbrev pub Apart : ℕ → Type 0
+  Apart n = (j : ℕ) → j < n → (i : ℕ) → i < j → get_or keys i 0 ≢ get_or keys j 0
 
-  -- no arrow before `earlier` has the key of `later`, and `earlier` is not past it
-  abbrev pub Apart : ℕ → ℕ → Type 0
-  Apart later earlier = (earlier ≤ later) × (alike_below keys later earlier ≡ false)
+  alone : (j n : ℕ) → j < n → Apart n → alike_below keys j j ≡ false
+  alone j n l h = any-none (λ i. eqb (get_or keys i 0) (get_or keys j 0)) j (λ i b. ne_eqb (get_or keys i 0) (get_or keys j 0) (h j l i b))
 
-  pub apart-start : (later : ℕ) → Apart later 0
-  unfolding any_below
-  apart-start later = (omega arith, refl)
-
-  pub apart_more : (later earlier : ℕ) → earlier < later → Apart later earlier → eqb (get_or keys earlier 0) (get_or keys later 0) ≡ false
-      → Apart later (earlier + 1)
-  apart_more later earlier l h e = (omega arith, any-more (λ i. eqb (get_or keys i 0) (get_or keys later 0)) earlier h.1 e)
-
-  pub clash-more : (later earlier : ℕ) → later ≤ earlier → first_alike keys later ≡ None → Apart later earlier
-      → first_alike keys (later + 1) ≡ None
+  pub clash-hit : (earlier later : ℕ) → earlier < later → later < length keys → Apart later → get_or keys earlier 0 ≡ get_or keys later 0
+      → first_alike keys ≡ Some later
   unfolding first_alike
-  clash-more later earlier l h a =
-      let e : earlier ≡ later = omega arith in
-      first_more (λ j. alike_below keys j j) later h (rw e at a.1)
+  clash-hit earlier later l b h e =
+      first-at (λ j. alike_below keys j j) later (length keys) b
+      (any-hit (λ i. eqb (get_or keys i 0) (get_or keys later 0)) earlier later l (eq-eqb (get_or keys earlier 0) (get_or keys later 0) e))
+      (λ j m. alone j later m h)
 
-  pub clash-hit : (later earlier m : ℕ) → earlier < later → later < m → first_alike keys later ≡ None
-      → eqb (get_or keys earlier 0) (get_or keys later 0) ≡ true → first_alike keys m ≡ Some later
+  pub clash-end : Apart (length keys) → first_alike keys ≡ None
   unfolding first_alike
-  clash-hit later earlier m l b h e =
-      first-hit (λ j. alike_below keys j j) later m b h (any-hit (λ i. eqb (get_or keys i 0) (get_or keys later 0)) earlier later l e)
-
-  pub clash-end : (later m : ℕ) → m ≤ later → first_alike keys later ≡ None → first_alike keys m ≡ None
-  unfolding first_alike
-  clash-end later m l h = search-end (λ j. alike_below keys j j) m later l h
+  clash-end h = first-none (λ j. alike_below keys j j) (length keys) (λ j l. alone j (length keys) l h)
 
 -- a key made of two bytes is another one where both bytes are the other's
 key-same : (a b c d : ℕ) → b < 256 → d < 256 → eqb (a * 256 + b) (c * 256 + d) ≡ eqb a c && eqb b d
@@ -84,9 +70,13 @@ module _ (c : Clash) (arrows : List ℕ) where
       (eq-or-lt_of_le (le_of_suc-le-suc (rw add-one at h)))
 
   -- so the search goes by the keys
-  pub by-keys : (m : ℕ) (keys : List ℕ) → Keys c arrows m keys → first_alike keys m ≡ first_clash c arrows m
+  pub by-keys : (keys : List ℕ) → length arrows ≤ length keys → Keys c arrows (length arrows) keys
+      → first_alike (take (length arrows) keys) ≡ first_clash c arrows
   unfolding first_alike first_clash
-  by-keys m keys h =
-      first-same (λ j. alike_below keys j j) (λ j. clash_below c arrows j j) m
-      λ j l. any_same (λ i. eqb (get_or keys i 0) (get_or keys j 0)) (λ i. clash_arrows c (arrow_at arrows i) (arrow_at arrows j)) j
-      λ i b. rw (h i (omega arith), h j l) (keys-same c (get_or arrows i 0) (get_or arrows j 0))
+  by-keys keys n h =
+      let ks = take (length arrows) keys in
+      let key = λ (i : ℕ) (l : i < length arrows). get_or-take (length arrows) keys i 0 l ∙ h i l in
+      rw (length-take-le (length arrows) keys n)
+      (first-same (λ j. alike_below ks j j) (λ j. clash_below c arrows j j) (length arrows)
+      λ j l. any_same (λ i. eqb (get_or ks i 0) (get_or ks j 0)) (λ i. clash_arrows c (arrow_at arrows i) (arrow_at arrows j)) j
+      λ i b. rw (key i (omega arith), key j l) (keys-same c (get_or arrows i 0) (get_or arrows j 0)))

@@ -1,24 +1,25 @@
 -- Laws of the word whose bit s says that state s has a transition to 0. Assumes nothing.
-use Rattle.std.specs.Prelude.{None}
+use mathlib.Core.Logic.{◌≢◌}
 use mathlib.Core.Path.{◌≡◌, refl, sym, ◌∙◌}
-use mathlib.Core.Bool.{Bool, true, false, not, ◌&&◌, ◌||◌, and-true, and-false, or-true, or-false}
+use mathlib.Core.Bool.{true, false, ◌||◌, and-true, and-false, or-true, or-false}
 use mathlib.Core.List.{List}
 use Prim.Native.Nat.{ℕ, zero, suc, ◌+◌, ◌*◌, ◌/◌, ◌%◌, ◌≤◌, ◌<◌}
 use native.Mathlib.Numerals.{add-one}
 use native.Mathlib.Omega.{arith}
+use lib.ListN.{length}
 use lib.Dec.{ltb, eqb, eqb-zero-suc, eqb-suc-zero, eqb-suc-suc}
-use borrow.Author.Tests.{ltb-true, ltb-false, lt-ltb, ne_eqb, eq-eqb}
+use borrow.Author.Tests.{lt-ltb, ne_eqb, eq-eqb}
 use Rattle.answer.specs.Lowest.{any_below, first_below}
-use Rattle.answer.proofs.BoolLaws.{and-true as both}
 use Rattle.answer.proofs.Laws.{first-same}
 use Rattle.bits.specs.Word.{get_bit, put_bit}
 use Rattle.bits.proofs.WordLaws.{bit-zero}
-use Rattle.reader.specs.inside.Packing.{arrow_at}
+use Rattle.reader.specs.inside.Packing.{unpack, arrow_at}
 use Rattle.sheet.specs.inside.Arrows.{home_arrow, has_home, Homes, lacks_home_arrow, lacks_bit}
 
--- the test that lets a source have a bit
-pub source_fits : (a : Bool) (source : ℕ) → a && ltb source 32 ≡ true → source < 32
-source_fits a source e = ltb-true source 32 (both a (ltb source 32) e).1
+-- a source is one of 32
+pub source_fits : (w : ℕ) → (unpack w).source < 32
+unfolding unpack
+source_fits w = omega arith
 
 -- setting bit i sets no other
 bit-set : (w i j : ℕ) → get_bit (put_bit w i true) j ≡ get_bit w j || eqb i j
@@ -32,12 +33,6 @@ bit-set w (suc i) (suc j) =
     let e : (w % 2 + 2 * put_bit (w / 2) i true) / 2 ≡ put_bit (w / 2) i true = omega arith in
     rw (e, eqb-suc-suc) (bit-set (w / 2) i j)
 
-no_home : (b : Bool) (source s : ℕ) → s < 32 → b && ltb source 32 ≡ false → eqb source s && b ≡ false
-no_home true source s l e =
-    let h : 32 ≤ source = ltb-false source 32 e in
-    rw (ne_eqb source s (λ q. omega arith))
-no_home false source s l e = and-false (eqb source s)
-
 module _ (arrows : List ℕ) where
   pub homes-start : Homes arrows 0 0
   unfolding has_home any_below
@@ -48,27 +43,25 @@ module _ (arrows : List ℕ) where
   more i s = rw add-one
 
   -- a transition to 0 sets the bit of its source
-  pub homes_set : (i w : ℕ) → Homes arrows i w → eqb (arrow_at arrows i).destination 0 && ltb (arrow_at arrows i).source 32 ≡ true
-      → Homes arrows (i + 1) (put_bit w (arrow_at arrows i).source true)
+  pub homes_set : (i w : ℕ) → Homes arrows i w → (arrow_at arrows i).destination ≡ 0 → Homes arrows (i + 1) (put_bit w (arrow_at arrows i).source true)
   homes_set i w h e s l =
       let t = arrow_at arrows i in
-      rw (bit-set w t.source s, h s l, more i s, (both (eqb t.destination 0) (ltb t.source 32) e).0, and-true (eqb t.source s))
+      rw (bit-set w t.source s, h s l, more i s, eq-eqb t.destination 0 e, and-true (eqb t.source s))
 
-  -- another one changes nothing; a source of 32 or more is no state
-  pub homes-keep : (i w : ℕ) → Homes arrows i w → eqb (arrow_at arrows i).destination 0 && ltb (arrow_at arrows i).source 32 ≡ false
-      → Homes arrows (i + 1) w
+  -- another one changes nothing
+  pub homes-keep : (i w : ℕ) → Homes arrows i w → (arrow_at arrows i).destination ≢ 0 → Homes arrows (i + 1) w
   homes-keep i w h e s l =
       let t = arrow_at arrows i in
-      rw (more i s, no_home (eqb t.destination 0) t.source s l e, h s l) (sym (or-false (has_home arrows i s)))
+      rw (more i s, ne_eqb t.destination 0 e, and-false (eqb t.source s), h s l) (sym (or-false (has_home arrows i s)))
 
   -- so the search goes by the word
-  pub by_word : (m word n : ℕ) → Homes arrows m word → n ≤ 32 → first_below (lacks_bit word) n ≡ first_below (lacks_home_arrow arrows m) n
-  by_word m word n h l = first-same (lacks_bit word) (lacks_home_arrow arrows m) n λ s b. rw (h s (omega arith))
+  pub by_word : (word n : ℕ) → Homes arrows (length arrows) word → n ≤ 32 → first_below (lacks_bit word) n ≡ first_below (lacks_home_arrow arrows) n
+  by_word word n h l = first-same (lacks_bit word) (lacks_home_arrow arrows) n λ s b. rw (h s (omega arith))
 
 -- from state 1 on the bit decides
-pub bit-decides : (word s : ℕ) → 1 ≤ s → lacks_bit word s ≡ not (get_bit word s)
-bit-decides word s l = rw (lt-ltb 0 s l)
+pub bit-lacks : (word s : ℕ) → 1 ≤ s → get_bit word s ≡ false → lacks_bit word s ≡ true
+bit-lacks word s l e = rw (lt-ltb 0 s l, e)
 
-pub past-idle : (word : ℕ) → first_below (lacks_bit word) 1 ≡ None
-unfolding first_below
-past-idle word = refl
+pub bit-has : (word s : ℕ) → (1 ≤ s → get_bit word s ≡ true) → lacks_bit word s ≡ false
+bit-has word zero h = refl
+bit-has word (suc s) h = rw (h (omega arith)) (and-false (ltb 0 (suc s)))

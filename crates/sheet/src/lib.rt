@@ -1,19 +1,21 @@
 // The rules of a sheet: numbers 7 to 13, and the check that answers every byte string.
 #![tactic(auto)]
 
-ghost use Rattle.std.specs.Prelude.{◌≡◌, List, ℕ, ◌≤◌, length};
-ghost use Rattle.answer.specs.Lowest.{first_below};
+ghost use Rattle.std.specs.Prelude.{◌≡◌, List, ℕ, ◌≤◌, length, Ok};
+ghost use Rattle.answer.specs.declared.Refusal.{Refusal};
+ghost use Rattle.answer.specs.Lowest.{first_below, refuse_at};
 ghost use Rattle.reader.specs.Sheet.{Sheet};
 ghost use Rattle.reader.specs.inside.Decoding.{Copy};
 ghost use Rattle.sheet.specs.Judging.{judge, ChecksSheet};
-ghost use Rattle.sheet.specs.inside.Arrows.{breaks_arrow, first_break, key_of, Keys, first_alike, Homes, lacks_home_arrow, activity_row, judge_forms};
+ghost use Rattle.sheet.specs.inside.Arrows.{breaks_arrow, first_break, key_of, first_alike, first_clash, Homes, lacks_home_arrow, activity_row};
 ghost use Rattle.sheet.specs.inside.Opening.{Opens};
 
 use answer::{Checked, Refusal};
+use condition::Form;
 use reader::{Arrow, Decoded};
 
 // The rules that look at one transition by itself.
-#[derive(Clone, Copy)]
+#[derive(Clone, Copy, Debug, PartialEq, Eq)]
 enum Rule {
     Loop,
     HomeForm,
@@ -21,7 +23,7 @@ enum Rule {
 }
 
 // The rules by which two transitions of one source clash.
-#[derive(Clone, Copy)]
+#[derive(Clone, Copy, Debug, PartialEq, Eq)]
 enum Clash {
     Pair,
     Rank,
@@ -35,170 +37,129 @@ fn breaks(rule: Rule, t: Arrow) -> bool
     match rule {
         Rule::Loop => t.source == t.destination,
         Rule::HomeForm => {
-            (t.destination == 0) & !((t.priority == 0) & (t.wait == 0) & (t.form == 2))
+            t.destination == 0 && !(t.priority == 0 && t.wait == 0 && matches!(t.form, Form::Off))
         }
-        Rule::Gate => (t.source == 0) & !((t.form == 1) | (t.form == 3)),
+        Rule::Gate => t.source == 0 && !matches!(t.form, Form::On | Form::Gated),
     }
 }
 
 // The first transition that breaks the rule.
-fn first_arrow(arrows: &[u64; 128], m: usize, rule: Rule) -> Option<usize>
-    requires { m ≤ 128 }
-    ensures { result ≡ first_break rule arrows.now m }
+fn first_arrow(arrows: &[u64], rule: Rule) -> Option<usize>
+    ensures { result ≡ first_break rule arrows.now }
 {
-    let mut i: usize = 0;
-    while i < m {
-        let t = reader::unpacked(arrows[i]);
-        if breaks(rule, t) {
-            return Some(i);
-        }
-        i += 1;
-    }
-    None
+    arrows
+        .iter()
+        .position(|w| breaks(rule, reader::unpacked(*w)))
 }
 
 // A transition's key: two of them are equal where the sources are and, for PAIR the destinations, for RANK the priorities.
 fn key(clash: Clash, t: Arrow) -> u16
     ensures { result ≡ key_of clash t }
 {
-    let source = (t.source as u16) * 256;
+    let source = u16::from(t.source) * 256;
     match clash {
-        Clash::Pair => source + (t.destination as u16),
-        Clash::Rank => source + (t.priority as u16),
+        Clash::Pair => source + u16::from(t.destination),
+        Clash::Rank => source + u16::from(t.priority),
     }
 }
 
-// The keys of the first m transitions.
-fn keys_of(arrows: &[u64; 128], m: usize, clash: Clash) -> [u16; 128]
-    requires { m ≤ 128 }
-    ensures { Keys clash arrows.now m result }
+// The first of the keys that an earlier one equals.
+fn first_alike(keys: &[u16]) -> Option<usize>
+    ensures { result ≡ first_alike keys.now }
+{
+    'clash: {
+        for later in 0..keys.len() {
+            for earlier in 0..later {
+                if keys[earlier] == keys[later] {
+                    break 'clash Some(later);
+                }
+            }
+        }
+        None
+    }
+}
+
+// 8 PAIR and 9 RANK: the first transition that clashes with an earlier one.
+fn first_clash(arrows: &[u64], clash: Clash) -> Option<usize>
+    requires { length arrows.now ≤ 128 }
+    ensures { result ≡ first_clash clash arrows.now }
 {
     let mut keys = [0u16; 128];
-    let mut i: usize = 0;
-    while i < m {
-        let t = reader::unpacked(arrows[i]);
-        keys[i] = key(clash, t);
-        i += 1;
+    for (i, w) in arrows.iter().enumerate() {
+        keys[i] = key(clash, reader::unpacked(*w));
     }
-    keys
+    first_alike(&keys[..arrows.len()])
 }
 
-// 8 PAIR and 9 RANK: the first transition with the key of an earlier one.
-fn first_clash(keys: &[u16; 128], m: usize) -> Option<usize>
-    requires { m ≤ 128 }
-    ensures { result ≡ first_alike keys.now m }
-{
-    let mut later: usize = 0;
-    let found = 'clash: loop {
-        if m <= later {
-            break None;
-        }
-        let key = keys[later];
-        let mut earlier: usize = 0;
-        while earlier < later {
-            if keys[earlier] == key {
-                break 'clash Some(later);
-            }
-            earlier += 1;
-        }
-        later += 1;
-    };
-    found
-}
-
-// The word whose bit s says that state s has a transition to 0; a sheet names no state above 31.
-fn homes(arrows: &[u64; 128], m: usize) -> u32
-    requires { m ≤ 128 }
-    ensures { Homes arrows.now m result }
+// The word whose bit s says that state s has a transition to 0.
+fn homes(arrows: &[u64]) -> u32
+    ensures { Homes arrows.now (length arrows.now) result }
 {
     let mut word: u32 = 0;
-    let mut i: usize = 0;
-    while i < m {
-        let t = reader::unpacked(arrows[i]);
-        if (t.destination == 0) & (t.source < 32) {
-            word = bits::set_bit(word, t.source as u32);
+    for w in arrows {
+        let t = reader::unpacked(*w);
+        if t.destination == 0 {
+            word = bits::set_bit(word, u32::from(t.source));
         }
-        i += 1;
     }
     word
 }
 
-// 10 NO-HOME: the first state other than 0 without a transition to 0.
-fn first_no_home(arrows: &[u64; 128], m: usize, n: usize) -> Option<usize>
-    requires { (m ≤ 128) × (n ≤ 32) }
-    ensures { result ≡ first_below (lacks_home_arrow arrows.now m) n }
+// 10 NO-HOME: the first of n states, other than 0, without a transition to 0.
+fn first_no_home(arrows: &[u64], n: u32) -> Option<usize>
+    requires { n ≤ 32 }
+    ensures { result ≡ first_below (lacks_home_arrow arrows.now) n }
 {
-    let word = homes(arrows, m);
-    let mut s: usize = 1;
-    while s < n {
-        if !bits::get_bit(word, s as u32) {
-            return Some(s);
+    let word = homes(arrows);
+    for s in 1..n {
+        if !bits::get_bit(word, s) {
+            return Some(s as usize);
         }
-        s += 1;
     }
     None
 }
 
 // 13 ACTIVITY: the first state whose output 0 is not whether it is state 0.
-fn first_activity(rows: &[u16; 32], n: usize) -> Option<usize>
-    requires { n ≤ 32 }
-    ensures { result ≡ first_below (activity_row rows.now) n }
+fn first_activity(rows: &[u16]) -> Option<usize>
+    ensures { result ≡ first_below (activity_row rows.now) (length rows.now) }
 {
-    let mut s: usize = 0;
-    while s < n {
-        let active = rows[s] % 2 == 1;
+    for (s, row) in rows.iter().enumerate() {
+        let active = *row % 2 == 1;
         if active != (s == 0) {
             return Some(s);
         }
-        s += 1;
     }
     None
 }
 
-// The numbers 10 to 13, lowest first.
-fn judge_forms(arrows: &[u64; 128], m: usize, rows: &[u16; 32], n: usize) -> Checked
-    requires { (m ≤ 128) × (n ≤ 32) }
-    ensures { result ≡ judge_forms arrows.now m rows.now n }
+// Refuses at what was found.
+fn refuse<F: FnOnce(usize) -> Refusal>(found: Option<usize>, why: F) -> Checked
+    requires { F.IsAlwaysCallable why }
+    ensures { (f : ℕ → Refusal) → ((i : ℕ) (r : Refusal) → F.post why i r → r ≡ f i) → result ≡ refuse_at f found (Ok tt) }
 {
-    let no_home = first_no_home(arrows, m, n);
-    if let Some(s) = no_home {
-        return Err(Refusal::NoHome(s));
-    }
-    let home_form = first_arrow(arrows, m, Rule::HomeForm);
-    if let Some(i) = home_form {
-        return Err(Refusal::HomeForm(i));
-    }
-    let gate = first_arrow(arrows, m, Rule::Gate);
-    if let Some(i) = gate {
-        return Err(Refusal::Gate(i));
-    }
-    match first_activity(rows, n) {
-        Some(s) => Err(Refusal::Activity(s)),
+    match found {
+        Some(i) => Err(why(i)),
         None => Ok(()),
     }
 }
 
 // The numbers 7 to 13 of a sheet read to its end, the lowest first.
-fn judge_decoded(d: Decoded, rows: &[u16; 32], arrows: &[u64; 128]) -> Checked
-    requires { (d.transitions ≤ 128) × (d.states ≤ 32) }
-    ensures { (s : List ℕ) (a : Sheet) → Copy s d rows.now arrows.now a → result ≡ judge a }
+fn judge_decoded(decoded: &Decoded) -> Checked
+    requires { (decoded.now.header.states ≤ 32) × (decoded.now.header.transitions ≤ 128) }
+    ensures { (s : List ℕ) (a : Sheet) → Copy s decoded.now a → result ≡ judge a }
 {
-    let m = d.transitions;
-    let to_itself = first_arrow(arrows, m, Rule::Loop);
-    if let Some(i) = to_itself {
-        return Err(Refusal::Loop(i));
-    }
-    let pairs = keys_of(arrows, m, Clash::Pair);
-    let pair = first_clash(&pairs, m);
-    if let Some(i) = pair {
-        return Err(Refusal::Pair(i));
-    }
-    let ranks = keys_of(arrows, m, Clash::Rank);
-    let rank = first_clash(&ranks, m);
-    if let Some(i) = rank {
-        return Err(Refusal::Rank(i));
-    }
-    judge_forms(arrows, m, rows, d.states as usize)
+    let arrows = decoded.arrows();
+    let rows = decoded.rows();
+    refuse(first_arrow(arrows, Rule::Loop), Refusal::Loop)?;
+    refuse(first_clash(arrows, Clash::Pair), Refusal::Pair)?;
+    refuse(first_clash(arrows, Clash::Rank), Refusal::Rank)?;
+    refuse(
+        first_no_home(arrows, decoded.header.states),
+        Refusal::NoHome,
+    )?;
+    refuse(first_arrow(arrows, Rule::HomeForm), Refusal::HomeForm)?;
+    refuse(first_arrow(arrows, Rule::Gate), Refusal::Gate)?;
+    refuse(first_activity(rows), Refusal::Activity)
 }
 
 // A sheet that is checked and decoded once, for the crates that go on with it.

@@ -30,5 +30,5 @@ pub returns : goal.returns
 returns c =
     let a = c.args in
     let w = (a.c.at + 7) / 8 * 8 - a.c.at in
-    let v = (field-got a.s.now a.c.at w _ _ (sym c.in-Field.ensures)).value in
+    let v = (field-got a.s.now a.c.at w _ _ (sym c.in-Some.ensures)).value in
     ap (λ (x : ℕ). eqb x 0) v ∙ sym (ends-spare a.s.now a.c.at c.if-s-stop.false)

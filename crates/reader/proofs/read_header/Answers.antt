@@ -8,77 +8,77 @@ use Rattle.reader.proofs.read_header.Goals as goal
 
 pub returns-in_default : goal.returns-in_default
 unfolding read_header
-returns-in_default c = rw (sym c.in_default.ensures) c.no_header.ensures
+returns-in_default c = rw (sym c.in_default.ensures)
 
 pub returns-then-n-eq0 : goal.returns-then-n-eq0
 unfolding read_header
-returns-then-n-eq0 c = rw (sym c.in-Field.ensures, eq-eqb _ _ c.if-n-eq0.true) c.no_header-then-n-eq0.ensures
+returns-then-n-eq0 c = rw (sym c.in-Some.ensures, eq-eqb _ _ c.if-n-eq0.true)
 
-pub field-g2-requires : goal.field-g2-requires
-field-g2-requires c = omega (arith, (field-got _ _ _ _ _ (sym c.in-Field.ensures)).after)
+pub field-requires-2 : goal.field-requires-2
+field-requires-2 c = omega (arith, (field-got _ _ _ _ _ (sym c.in-Some.ensures)).after)
 
-pub returns-in_default-g2 : goal.returns-in_default-g2
+pub returns-in_default-field : goal.returns-in_default-field
 unfolding read_header
-returns-in_default-g2 c =
-    rw (sym c.in-Field.ensures, ne_eqb _ _ c.if-n-eq0.false, sym c.in_default-g2.ensures) c.no_header-in_default-g2.ensures
+returns-in_default-field c =
+    rw (sym c.in-Some.ensures, ne_eqb _ _ c.if-n-eq0.false, sym c.in_default-field.ensures)
 
-pub field-g3-requires : goal.field-g3-requires
-field-g3-requires c =
+pub field-requires-3 : goal.field-requires-3
+field-requires-3 c =
     omega (
       arith,
-      (field-got _ _ _ _ _ (sym c.in-Field.ensures)).after,
-      (field-got _ _ _ _ _ (sym c.in-Field-g2.ensures)).after,
+      (field-got _ _ _ _ _ (sym c.in-Some.ensures)).after,
+      (field-got _ _ _ _ _ (sym c.in-Some-field.ensures)).after,
     )
 
-pub returns-in_default-g3 : goal.returns-in_default-g3
+pub returns-in_default-field-2 : goal.returns-in_default-field-2
 unfolding read_header
-returns-in_default-g3 c =
+returns-in_default-field-2 c =
     rw (
-      sym c.in-Field.ensures,
+      sym c.in-Some.ensures,
       ne_eqb _ _ c.if-n-eq0.false,
-      sym c.in-Field-g2.ensures,
-      sym c.in_default-g3.ensures,
-    ) c.no_header-in_default-g3.ensures
+      sym c.in-Some-field.ensures,
+      sym c.in_default-field-2.ensures,
+    )
 
-pub field-g4-requires : goal.field-g4-requires
-field-g4-requires c =
+pub field-requires-4 : goal.field-requires-4
+field-requires-4 c =
     omega (
       arith,
-      (field-got _ _ _ _ _ (sym c.in-Field.ensures)).after,
-      (field-got _ _ _ _ _ (sym c.in-Field-g2.ensures)).after,
-      (field-got _ _ _ _ _ (sym c.in-Field-g3.ensures)).after,
+      (field-got _ _ _ _ _ (sym c.in-Some.ensures)).after,
+      (field-got _ _ _ _ _ (sym c.in-Some-field.ensures)).after,
+      (field-got _ _ _ _ _ (sym c.in-Some-field-2.ensures)).after,
     )
 
-pub returns-in_default-g4 : goal.returns-in_default-g4
+pub returns-in_default-field-3 : goal.returns-in_default-field-3
 unfolding read_header
-returns-in_default-g4 c =
+returns-in_default-field-3 c =
     rw (
-      sym c.in-Field.ensures,
+      sym c.in-Some.ensures,
       ne_eqb _ _ c.if-n-eq0.false,
-      sym c.in-Field-g2.ensures,
-      sym c.in-Field-g3.ensures,
-      sym c.in_default-g4.ensures,
-    ) c.no_header-in_default-g4.ensures
+      sym c.in-Some-field.ensures,
+      sym c.in-Some-field-2.ensures,
+      sym c.in_default-field-3.ensures,
+    )
 
-pub overflow_add-result : goal.overflow_add-result
-overflow_add-result c = omega (arith, (field-got _ _ _ _ _ (sym c.in-Field.ensures)).below)
+pub overflow_add-header : goal.overflow_add-header
+overflow_add-header c = omega (arith, (field-got _ _ _ _ _ (sym c.in-Some.ensures)).below)
 
-pub overflow_add-result-2 : goal.overflow_add-result-2
-overflow_add-result-2 c = omega (arith, (field-got _ _ _ _ _ (sym c.in-Field-g2.ensures)).below)
+pub overflow_add-header-2 : goal.overflow_add-header-2
+overflow_add-header-2 c = omega (arith, (field-got _ _ _ _ _ (sym c.in-Some-field.ensures)).below)
 
-pub overflow_add-result-3 : goal.overflow_add-result-3
-overflow_add-result-3 c = omega (arith, (field-got _ _ _ _ _ (sym c.in-Field-g3.ensures)).below)
+pub overflow_add-header-3 : goal.overflow_add-header-3
+overflow_add-header-3 c = omega (arith, (field-got _ _ _ _ _ (sym c.in-Some-field-2.ensures)).below)
 
-pub overflow_add-result-4 : goal.overflow_add-result-4
-overflow_add-result-4 c = omega (arith, (field-got _ _ _ _ _ (sym c.in-Field-g4.ensures)).below)
+pub overflow_add-header-4 : goal.overflow_add-header-4
+overflow_add-header-4 c = omega (arith, (field-got _ _ _ _ _ (sym c.in-Some-field-3.ensures)).below)
 
 pub returns : goal.returns
 unfolding read_header
 returns c =
     rw (
-      sym c.in-Field.ensures,
+      sym c.in-Some.ensures,
       ne_eqb _ _ c.if-n-eq0.false,
-      sym c.in-Field-g2.ensures,
-      sym c.in-Field-g3.ensures,
-      sym c.in-Field-g4.ensures,
+      sym c.in-Some-field.ensures,
+      sym c.in-Some-field-2.ensures,
+      sym c.in-Some-field-3.ensures,
     )

@@ -12,38 +12,38 @@ returns-in_default c = rw (sym c.in_default.ensures)
 
 pub returns-then-n-source : goal.returns-then-n-source
 unfolding names_at
-returns-then-n-source c = rw (sym c.in-Field.ensures, le-ltb _ _ c.if-n-source.true)
+returns-then-n-source c = rw (sym c.in-Some.ensures, le-ltb _ _ c.if-n-source.true)
 
-pub field-g2-requires : goal.field-g2-requires
-field-g2-requires c = omega (arith, (field-got _ _ _ _ _ (sym c.in-Field.ensures)).after)
+pub field-requires-2 : goal.field-requires-2
+field-requires-2 c = omega (arith, (field-got _ _ _ _ _ (sym c.in-Some.ensures)).after)
 
-pub returns-in_default-g2 : goal.returns-in_default-g2
+pub returns-in_default-field : goal.returns-in_default-field
 unfolding names_at
-returns-in_default-g2 c =
-    rw (sym c.in-Field.ensures, lt-ltb _ _ c.if-n-source.false, sym c.in_default-g2.ensures)
+returns-in_default-field c =
+    rw (sym c.in-Some.ensures, lt-ltb _ _ c.if-n-source.false, sym c.in_default-field.ensures)
 
 pub returns-then-n-destination : goal.returns-then-n-destination
 unfolding names_at
 returns-then-n-destination c =
     rw (
-      sym c.in-Field.ensures,
+      sym c.in-Some.ensures,
       lt-ltb _ _ c.if-n-source.false,
-      sym c.in-Field-g2.ensures,
-      le-ltb c.in-Field-g2.destination c.args.n (omega arith),
+      sym c.in-Some-field.ensures,
+      le-ltb c.in-Some-field.destination c.args.n (omega arith),
     )
 
 pub overflow_cast-result : goal.overflow_cast-result
-overflow_cast-result c = omega (arith, (field-got _ _ _ _ _ (sym c.in-Field.ensures)).below)
+overflow_cast-result c = omega (arith, (field-got _ _ _ _ _ (sym c.in-Some.ensures)).below)
 
 pub overflow_cast-result-2 : goal.overflow_cast-result-2
-overflow_cast-result-2 c = omega (arith, (field-got _ _ _ _ _ (sym c.in-Field-g2.ensures)).below)
+overflow_cast-result-2 c = omega (arith, (field-got _ _ _ _ _ (sym c.in-Some-field.ensures)).below)
 
 pub returns : goal.returns
 unfolding names_at
 returns c =
     rw (
-      sym c.in-Field.ensures,
+      sym c.in-Some.ensures,
       lt-ltb _ _ c.if-n-source.false,
-      sym c.in-Field-g2.ensures,
-      lt-ltb c.in-Field-g2.destination c.args.n (omega arith),
+      sym c.in-Some-field.ensures,
+      lt-ltb c.in-Some-field.destination c.args.n (omega arith),
     )

@@ -9,4 +9,4 @@ returns-in_default c = rw (sym c.in_default.ensures)
 
 pub returns : goal.returns
 unfolding row_at
-returns c = rw (sym c.in-Field.ensures, c.output_word.ensures)
+returns c = rw (sym c.in-Some.ensures, c.output_word.ensures)

@@ -1,25 +1,28 @@
 -- `reader::read_transition` meets its contract. Assumes nothing.
 use mathlib.Core.Path.{refl, sym}
 use native.Mathlib.Omega.{arith}
-use Rattle.reader.specs.inside.Decoding.{names_at}
-use Rattle.reader.proofs.Laws.{transition-is, names-got, names-bad, names-next, names-few}
+use Rattle.std.proofs.lemmas.Result.{err_from_is_err_and}
+use Rattle.bits.proofs.ToldLaws.{told-bad}
+use Rattle.reader.specs.inside.Decoding.{names_at, pair_of}
+use Rattle.reader.proofs.Laws.{transition-is, names-got, names-next, names-few}
 use Rattle.reader.proofs.read_transition.Goals as goal
+
+pub returns-in_err-source : goal.returns-in_err-source
+returns-in_err-source c =
+    let a = c.args in
+    let p = err_from_is_err_and c.from_residual.result c.from_residual.ensures.1 in
+    let e = told-bad pair_of (names_at a.s.now a.n a.c.at) _ (sym c.in_err-source.ensures) in
+    rw (transition-is a.s.now a.n a.k a.c.at, e, p.1, p.2) refl
 
 pub read_rest-requires : goal.read_rest-requires
 read_rest-requires c =
     let a = c.args in
-    let named = names-got (names_at a.s.now a.n a.c.at) _ _ _ (sym c.in-Names.ensures) in
+    let named = names-got (names_at a.s.now a.n a.c.at) _ _ _ (sym c.in_ok-source.ensures) in
     let few = names-few a.s.now a.n a.c.at named in
     omega (arith, few.0, few.1, names-next a.s.now a.n a.c.at named)
 
-pub returns-in-Names : goal.returns-in-Names
-returns-in-Names c =
+pub returns : goal.returns
+returns c =
     let a = c.args in
-    let named = names-got (names_at a.s.now a.n a.c.at) _ _ _ (sym c.in-Names.ensures) in
+    let named = names-got (names_at a.s.now a.n a.c.at) _ _ _ (sym c.in_ok-source.ensures) in
     rw (transition-is a.s.now a.n a.k a.c.at, named) c.read_rest.ensures
-
-pub returns-in-Bad : goal.returns-in-Bad
-returns-in-Bad c =
-    let a = c.args in
-    let e = names-bad (names_at a.s.now a.n a.c.at) _ (sym c.in-Bad.ensures) in
-    rw (transition-is a.s.now a.n a.k a.c.at, e) refl

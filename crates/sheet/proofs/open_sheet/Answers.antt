@@ -1,28 +1,30 @@
 -- `sheet::open_sheet` meets its contract. Assumes nothing.
-use mathlib.Core.Path.{sym, ◌∙◌}
+use mathlib.Core.Path.{sym, ◌∙◌, refl}
 use native.Mathlib.Omega.{arith}
+use Rattle.std.proofs.lemmas.Result.{err_from_is_err_and}
 use Rattle.reader.proofs.Laws.{answers-done, answers-bad, read-sizes}
-use Rattle.sheet.proofs.WithLaws.{accepted-refused, check-read, check-unread}
+use Rattle.answer.proofs.CheckedLaws.{accepted-refused}
+use Rattle.sheet.proofs.WithLaws.{check-read, check-unread}
 use Rattle.sheet.proofs.open_sheet.Goals as goal
 
-pub judge_decoded-verdict-requires : goal.judge_decoded-verdict-requires
-judge_decoded-verdict-requires c =
-    let s = c.args.sheet.now in
-    let x = answers-done s _ c.read_sheet-d.result _ _ _ c.read_sheet-d.ensures c.in-Done.is in
-    let few = read-sizes s x.0 _ x.1 in
+pub judge_decoded-requires : goal.judge_decoded-requires
+judge_decoded-requires c =
+    let x = answers-done c.args.sheet.now _ _ _ c.in_ok-read_sheet.ensures in
+    let few = read-sizes c.args.sheet.now x.0 _ x.1 in
     omega (arith, few, x.2.states, x.2.transitions)
 
-pub returns-in-Bad : goal.returns-in-Bad
-returns-in-Bad c =
+pub returns-in_err-read_sheet : goal.returns-in_err-read_sheet
+returns-in_err-read_sheet c =
     let s = c.args.sheet.now in
-    let e = answers-bad s _ c.read_sheet-d.result _ _ c.in-Bad.why c.read_sheet-d.ensures c.in-Bad.is in
-    record { verdict = sym (check-unread s c.in-Bad.why e); good = λ z. accepted-refused (sym z) }
+    let e = answers-bad s _ _ _ c.in_err-read_sheet.ensures in
+    let p = err_from_is_err_and c.from_residual.result c.from_residual.ensures.1 in
+    rw (p.1, p.2) (record { verdict = sym (check-unread s _ e); good = λ z. accepted-refused z refl })
 
-pub returns-in-Done : goal.returns-in-Done
-returns-in-Done c =
+pub returns : goal.returns
+returns c =
     let s = c.args.sheet.now in
-    let x = answers-done s _ c.read_sheet-d.result _ _ _ c.read_sheet-d.ensures c.in-Done.is in
-    let j = c.judge_decoded-verdict.ensures s x.0 x.2 in
+    let x = answers-done s _ _ _ c.in_ok-read_sheet.ensures in
+    let j = c.judge_decoded.ensures s x.0 x.2 in
     record {
       verdict = j ∙ sym (check-read s x.0 _ x.1);
       good = λ z. record { sheet = x.0; end = _; read = x.1; judged = sym j ∙ z; copy = x.2 };
