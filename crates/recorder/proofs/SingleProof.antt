@@ -1,14 +1,12 @@
 -- The C boundary's contracts admit a single outcome. Assumes nothing.
-use Prim.Native.Nat.{ℕ}
-use mathlib.Core.Path.{◌≡◌, refl}
-use mathlib.Core.List.{List}
+use mathlib.Core.Path.{refl}
 use Rattle.answer.specs.Number.{number_of, place_of}
 use Rattle.answer.specs.Checked.{Checked}
 use Rattle.scan.specs.declared.State.{State}
-use Rattle.scan.specs.Scan.{scan_sheet, cold_scan, Scanned}
+use Rattle.scan.specs.Scan.{scan_sheet, cold_scan}
 use Rattle.machine.specs.declared.Record.{Record}
-use Rattle.machine.specs.Run.{run_code, Ran}
-use Rattle.translate.specs.Writing.{Written, translate_into, cold_run, Cold}
+use Rattle.machine.specs.Run.{run_code}
+use Rattle.translate.specs.Writing.{Written, translate_into, cold_run}
 use Rattle.recorder.specs.Answer.{Told, CodeLeft, StateLeft, RecordLeft}
 use Rattle.recorder.specs.Single.{SingleAtC}
 

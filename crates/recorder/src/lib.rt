@@ -9,6 +9,8 @@ ghost use Rattle.recorder.specs.Answer.{Told};
 ghost use Rattle.recorder.specs.Calls.{ChzCheckSheet, ChzCheckCode, ChzTranslate, ChzColdScan, ChzColdRun, ChzScan, ChzRun};
 
 use answer::Checked;
+use machine::Record;
+use scan::State;
 
 // The number, and the place behind its pointer: no place needs more than 32 bits.
 fn answered(verdict: Checked, place: &mut u32) -> u32
@@ -39,8 +41,7 @@ pub fn chz_translate(sheet: &[u8], code: &mut [u8], length: &mut u32, place: &mu
 {
     let translated = translate::translate(sheet, code);
     *length = translated.length as u32;
-    let verdict = translated.verdict;
-    answered(verdict, place)
+    answered(translated.verdict, place)
 }
 
 // The reference's cold start; what the record held is not read.
@@ -54,12 +55,12 @@ pub fn chz_cold_scan(
     ensures { ChzColdScan sheet.now result place.new state.new outputs.new clock.new }
 {
     let cold = scan::cold_scan(sheet);
-    let begun = cold.record;
-    *state = begun.state;
-    *outputs = begun.outputs;
-    *clock = begun.clock;
-    let verdict = cold.verdict;
-    answered(verdict, place)
+    State {
+        state: *state,
+        outputs: *outputs,
+        clock: *clock,
+    } = cold.record;
+    answered(cold.verdict, place)
 }
 
 // The runner's cold start; what the record held is not read.
@@ -73,12 +74,12 @@ pub fn chz_cold_run(
     ensures { ChzColdRun sheet.now result place.new flags.new outputs.new clock.new }
 {
     let cold = translate::cold_run(sheet);
-    let first = cold.record;
-    *flags = first.flags;
-    *outputs = first.outputs;
-    *clock = first.clock;
-    let verdict = cold.verdict;
-    answered(verdict, place)
+    Record {
+        flags: *flags,
+        outputs: *outputs,
+        clock: *clock,
+    } = cold.record;
+    answered(cold.verdict, place)
 }
 
 // One scan of the reference.
@@ -93,14 +94,18 @@ pub fn chz_scan(
 ) -> u32
     ensures { ChzScan sheet.now (state_with state.old outputs.old clock.old) inputs elapsed result place.new state.new outputs.new clock.new }
 {
-    let given = scan::state_with(*state, *outputs, *clock);
+    let given = State {
+        state: *state,
+        outputs: *outputs,
+        clock: *clock,
+    };
     let scanned = scan::scan(sheet, given, inputs, elapsed);
-    let moved = scanned.record;
-    *state = moved.state;
-    *outputs = moved.outputs;
-    *clock = moved.clock;
-    let verdict = scanned.verdict;
-    answered(verdict, place)
+    State {
+        state: *state,
+        outputs: *outputs,
+        clock: *clock,
+    } = scanned.record;
+    answered(scanned.verdict, place)
 }
 
 // One scan of code.
@@ -115,12 +120,16 @@ pub fn chz_run(
 ) -> u32
     ensures { ChzRun code.now (record_with flags.old outputs.old clock.old) inputs elapsed result place.new flags.new outputs.new clock.new }
 {
-    let given = machine::record_with(*flags, *outputs, *clock);
+    let given = Record {
+        flags: *flags,
+        outputs: *outputs,
+        clock: *clock,
+    };
     let ran = machine::run(code, given, inputs, elapsed);
-    let after = ran.record;
-    *flags = after.flags;
-    *outputs = after.outputs;
-    *clock = after.clock;
-    let verdict = ran.verdict;
-    answered(verdict, place)
+    Record {
+        flags: *flags,
+        outputs: *outputs,
+        clock: *clock,
+    } = ran.record;
+    answered(ran.verdict, place)
 }
