@@ -17,7 +17,7 @@ pub struct Cursor {
 pub type Read<T> = Result<(T, Cursor), Refusal>;
 
 // The bytes before `stop` that the field at `at` is in. As many of the last ones are taken as a field of this width
-// fills at least, and its first byte, which may be one of them, is put above them: what stands above a field is cut off.
+// fills at least, and its first byte, which may be one of them, is put above them: what is above a field is cut off.
 // Byte by byte and not by a fold over them, which takes twice as long a field (measured).
 fn gathered(s: &[u8], at: usize, width: usize, stop: usize) -> u64
     requires { (at < reach) × (1 ≤ width) × (width ≤ 24) × (stop ≡ (at + width + 7) / 8) × (stop ≤ length s.now) }
