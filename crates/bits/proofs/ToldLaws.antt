@@ -1,5 +1,5 @@
 -- Laws of what the code answers of what is read: what an answer says of the reading. Assumes nothing.
-use mathlib.Core.Path.{◌≡◌, refl, sym, ap}
+use mathlib.Core.Path.{◌≡◌, sym, ap}
 use Prim.Native.Nat.{ℕ}
 use native.Mathlib.Omega.{arith}
 use Rattle.std.specs.Prelude.{Ok, Err}

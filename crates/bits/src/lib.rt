@@ -22,16 +22,16 @@ fn gathered(s: &[u8], at: usize, width: usize, stop: usize) -> u64
     requires { (at < reach) × (1 ≤ width) × (width ≤ 24) × (stop ≡ (at + width + 7) / 8) × (stop ≤ length s.now) }
     ensures { result / 2 ^ (stop * 8 - (at + width)) % 2 ^ width ≡ num_at s.now at width }
 {
-    let first = s[at / 8] as u64;
-    let last = s[stop - 1] as u64;
+    let first = u64::from(s[at / 8]);
+    let last = u64::from(s[stop - 1]);
     if width <= 9 {
         return first * 256 + last;
     }
-    let second = s[stop - 2] as u64;
+    let second = u64::from(s[stop - 2]);
     if width <= 17 {
         return (first * 256 + second) * 256 + last;
     }
-    let third = s[stop - 3] as u64;
+    let third = u64::from(s[stop - 3]);
     ((first * 256 + third) * 256 + second) * 256 + last
 }
 
@@ -44,8 +44,7 @@ pub fn number(s: &[u8], at: usize, width: usize) -> u32
     let stop = (end + 7) / 8;
     let all = gathered(s, at, width, stop);
     let spare = stop * 8 - end;
-    let one: u64 = 1;
-    ((all >> spare) % (one << width)) as u32
+    ((all >> spare) % (1 << width)) as u32
 }
 
 // The field of `width` bits from the cursor on with the cursor after it, where it is there.
@@ -69,12 +68,26 @@ pub fn get_bit(w: u32, i: u32) -> bool
     (w >> i) % 2 == 1
 }
 
+// The word with bit i made `bit`.
+pub fn put_bit(w: u32, i: u32, bit: bool) -> u32
+    requires { i < 32 }
+    ensures { result ≡ put_bit w i bit }
+{
+    if get_bit(w, i) == bit {
+        w
+    } else if bit {
+        w + (1 << i)
+    } else {
+        w - (1 << i)
+    }
+}
+
 // The word with bit i made 1.
 pub fn set_bit(w: u32, i: u32) -> u32
     requires { i < 32 }
     ensures { result ≡ put_bit w i true }
 {
-    if get_bit(w, i) { w } else { w + (1 << i) }
+    put_bit(w, i, true)
 }
 
 // The word with bit i made 0.
@@ -82,5 +95,5 @@ pub fn clear_bit(w: u32, i: u32) -> u32
     requires { i < 32 }
     ensures { result ≡ put_bit w i false }
 {
-    if get_bit(w, i) { w - (1 << i) } else { w }
+    put_bit(w, i, false)
 }

@@ -8,11 +8,5 @@ ghost use Rattle.clock.specs.Onward.{onward};
 pub fn bring_forward(clock: u32, elapsed: u32) -> u32
     ensures { result ≡ onward clock elapsed }
 {
-    if 16777215 <= elapsed {
-        return 16777215;
-    }
-    if 16777215 - elapsed <= clock {
-        return 16777215;
-    }
-    clock + elapsed
+    clock.saturating_add(elapsed).min(16_777_215)
 }

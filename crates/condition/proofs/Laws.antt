@@ -120,6 +120,12 @@ unfolding cond_at
 cond-node zero s k seen at tag c e z = absurd (z refl)
 cond-node (suc room) s k seen at tag c e z = let p : suc room - 1 ≡ room = omega arith in rw (e, p)
 
+-- an operator is no input
+pub tag-known : (o : Operator) → eqb (tag_of o) 0 ≡ false
+tag-known Not = refl
+tag-known And = refl
+tag-known Or = refl
+
 -- an operator as the code compares it
 pub same_not : (o : Operator) → sameb the_type o Not ≡ eqb (tag_of o) 1
 same_not Not = refl

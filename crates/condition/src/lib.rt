@@ -11,7 +11,7 @@ ghost use Rattle.condition.specs.inside.Facts.{facts_of, neg_facts, join_facts, 
 use answer::Refusal;
 use bits::{Cursor, Read};
 
-// The forms that HOME-FORM and GATE ask for: input 0; NOT input 0; an AND whose first operand is input 0; and any other.
+// What HOME-FORM and GATE ask for: input 0; NOT input 0; an AND whose first operand is input 0; or any other form.
 #[derive(Clone, Copy, Debug, PartialEq, Eq)]
 pub enum Form {
     Other,
@@ -42,15 +42,15 @@ fn negated(f: Facts) -> Facts
     requires { f.words ≤ 1000 }
     ensures { result ≡ neg_facts f }
 {
+    let form = match f.form {
+        Form::On => Form::Off,
+        _ => Form::Other,
+    };
     Facts {
-        nodes: f.nodes,
         value: !f.value,
-        form: if matches!(f.form, Form::On) {
-            Form::Off
-        } else {
-            Form::Other
-        },
+        form,
         words: f.words + 1,
+        ..f
     }
 }
 
@@ -59,18 +59,15 @@ fn joined(and: bool, f: Facts, g: Facts) -> Facts
     requires { (f.words ≤ 1000) × (g.words ≤ 1000) }
     ensures { result ≡ join_facts and f g }
 {
+    let (one, two) = (f.value, g.value);
+    let form = match f.form {
+        Form::On if and => Form::Gated,
+        _ => Form::Other,
+    };
     Facts {
         nodes: g.nodes,
-        value: if and {
-            f.value & g.value
-        } else {
-            f.value | g.value
-        },
-        form: if and & matches!(f.form, Form::On) {
-            Form::Gated
-        } else {
-            Form::Other
-        },
+        value: if and { one & two } else { one | two },
+        form,
         words: f.words + g.words + 2,
     }
 }
@@ -117,12 +114,13 @@ pub fn read_condition(
     if 31 <= seen {
         return Err(Refusal::Big(c.at));
     }
-    match tag {
-        0 => read_input(s, next, inputs, seen, word),
-        1 => read_operands(s, next, inputs, room - 1, seen + 1, Operator::Not, word),
-        2 => read_operands(s, next, inputs, room - 1, seen + 1, Operator::And, word),
-        _ => read_operands(s, next, inputs, room - 1, seen + 1, Operator::Or, word),
-    }
+    let operator = match tag {
+        0 => return read_input(s, next, inputs, seen, word),
+        1 => Operator::Not,
+        2 => Operator::And,
+        _ => Operator::Or,
+    };
+    read_operands(s, next, inputs, room - 1, seen + 1, operator, word)
 }
 
 // The operands of a node with this operator: one for NOT, else two. The bits left fall with each call of the cycle.

@@ -1,9 +1,10 @@
 -- Laws of the check of code. Assumes nothing.
 use Rattle.std.specs.Prelude.{Some, None}
 use mathlib.Core.Path.{◌≡◌, refl, sym, ◌∙◌}
-use mathlib.Core.Bool.{Bool, true, false, not, ◌&&◌, ◌||◌, cond}
+use mathlib.Core.Logic.{◌⊎◌, inl, inr}
+use mathlib.Core.Bool.{Bool, true, false, not, ◌&&◌, ◌||◌}
 use mathlib.Core.List.{List, [], ◌∷◌, map}
-use Prim.Native.Nat.{ℕ, zero, suc, pred, ◌+◌, ◌*◌, ◌≤◌, ◌<◌}
+use Prim.Native.Nat.{ℕ, zero, suc, ◌+◌, ◌*◌, ◌≤◌, ◌<◌}
 use native.Mathlib.Omega.{arith}
 use native.Mathlib.Nat.{add-suc, suc-add, add-zero}
 use borrow.Author.Tests.{eq-eqb, ne_eqb, eqb-true, ltb-false, leb-false, ltb-true, lt-ltb}
@@ -11,13 +12,17 @@ use lib.Dec.{eqb, ltb}
 use lib.ListN.{length, get_or, drop, drop_of_length-le, get_or-map}
 use lib.Seq.{drop-cons}
 use Rattle.std.specs.declared.option.Option.{Option}
+use Rattle.words.specs.declared.Op.{Op}
+use Rattle.words.specs.declared.Op.TheVariants as op
+use Rattle.words.specs.Op.{op_no}
 use Rattle.words.specs.Word.{Word, END, LDS, LDI, NOT, ANDP, ORP, PAR, ANDT, R, S, RA, SA, JMPC, JMP, TRES, code_no, operand, word_no, known, decode}
+use Rattle.faults.specs.inside.Marks.{jumps}
 use Rattle.faults.specs.Check.{opens, strays, faulty, unknown, here_or, first_fault, depth_at, lands_open, first_landing}
 use Rattle.words.proofs.WordLaws.{by_first, known-end, decode-at}
 
 pub or_no : (a b : Bool) → (a || b) ≡ false → (a ≡ false) × (b ≡ false)
 or_no false b h = (refl, h)
-or_no true b h = (h, absurd (let z : ◌≡◌ {A = ℕ} 0 1 = cc in omega arith))
+or_no true b h = (h, cc)
 
 or-false : (a : Bool) → (a || false) ≡ a
 or-false true = refl
@@ -48,14 +53,24 @@ module _ (n pc d k a : ℕ) (small : a < 16777216) where
   unfolding unknown word_no code_no operand
   beyond h = rw (decode-at k a small, known-end k a h, ne_eqb 0 (k * 16777216 + a) (λ e. omega arith)) refl
 
--- only 4, 5 and 6 change the depth
-pub opens-code : (k a d : ℕ) → opens (known k a) d ≡ cond (eqb k 4 || eqb k 5) (suc d) (cond (eqb k 6) (pred d) d)
+-- only AND(, OR( and ) change the depth
+pub opens-flat : (o : Op) (a d : ℕ) → (o ≡ op.And → ⊥) → (o ≡ op.Or → ⊥) → (o ≡ op.Close → ⊥) → opens (known (op_no o) a) d ≡ d
 unfolding opens known
-opens-code k a d =
-    by_first (λ (k : ℕ). opens (known k a) d ≡ cond (eqb k 4 || eqb k 5) (suc d) (cond (eqb k 6) (pred d) d)) 15
-    (refl, (refl, (refl, (refl, (refl, (refl, (refl, (refl, (refl, (refl, (refl, (refl, (refl, (refl, (refl, tt)))))))))))))))
-    (λ k h. rw (known-end k a h) (simp (ne_eqb k 4 (λ e. omega arith), ne_eqb k 5 (λ e. omega arith), ne_eqb k 6 (λ e. omega arith))))
-    k
+opens-flat op.End a d x y z = refl
+opens-flat op.Lds a d x y z = refl
+opens-flat op.Ldi a d x y z = refl
+opens-flat op.Not a d x y z = refl
+opens-flat op.And a d x y z = absurd (x refl)
+opens-flat op.Or a d x y z = absurd (y refl)
+opens-flat op.Close a d x y z = absurd (z refl)
+opens-flat op.Andt a d x y z = refl
+opens-flat op.R a d x y z = refl
+opens-flat op.S a d x y z = refl
+opens-flat op.Ra a d x y z = refl
+opens-flat op.Sa a d x y z = refl
+opens-flat op.Jmpc a d x y z = refl
+opens-flat op.Jmp a d x y z = refl
+opens-flat op.Tres a d x y z = refl
 
 -- one word further in the search for a fault
 module _ (n d : ℕ) (ws : List ℕ) (pc : ℕ) (here : pc < length ws) where
@@ -124,7 +139,7 @@ opens-most (JMP a) d = omega arith
 opens-most TRES d = omega arith
 
 here-none : (b : Bool) (pc : ℕ) (later : Option ℕ) → here_or b pc later ≡ None → (b ≡ false) × (later ≡ None)
-here-none true pc later h = absurd (let z : ◌≡◌ {A = ℕ} 0 1 = cc in omega arith)
+here-none true pc later h = cc
 here-none false pc later h = (refl, h)
 
 -- where no word is found at fault, each is known and without fault
@@ -164,7 +179,7 @@ lands-to code pc (i ∷ is) h = rw (h 0 (omega arith)) (lands-to code (suc pc) i
 and_both : (a b : Bool) → not (a && b) ≡ false → (a ≡ true) × (b ≡ true)
 and_both true true h = (refl, refl)
 and_both true false h = (refl, sym h)
-and_both false b h = (sym h, absurd (let z : ◌≡◌ {A = ℕ} 0 1 = cc in omega arith))
+and_both false b h = (sym h, cc)
 
 -- a jump without fault goes forward, inside the code, with nothing open
 pub jump_ok : (n pc d t : ℕ) → (strays n pc t || ltb 0 d) ≡ false → (pc < t) × (t < n) × (d ≡ 0)
@@ -181,7 +196,7 @@ jump-code n pc d k a e h = go (eqb k 12) refl (eqb k 13) refl e
     go : (x : Bool) → eqb k 12 ≡ x → (y : Bool) → eqb k 13 ≡ y → (x || y) ≡ true → (pc < a) × (a < n) × (d ≡ 0)
     go true p y q z = let g = rw (eqb-true k 12 p) at h in jump_ok n pc d a g
     go false p true q z = let g = rw (eqb-true k 13 q) at h in jump_ok n pc d a g
-    go false p false q z = absurd (let z : ◌≡◌ {A = ℕ} 0 1 = cc in omega arith)
+    go false p false q z = cc
 
 -- only 12 and 13 land
 pub lands-code : (code : List Word) (k a : ℕ) → lands_open code (known k a) ≡ ((eqb k 12 || eqb k 13) && ltb 0 (depth_at 0 code a))
@@ -191,6 +206,28 @@ lands-code code k a =
     (refl, (refl, (refl, (refl, (refl, (refl, (refl, (refl, (refl, (refl, (refl, (refl, (refl, (refl, (refl, tt)))))))))))))))
     (λ k h. rw (known-end k a h) (simp (ne_eqb k 12 (λ e. omega arith), ne_eqb k 13 (λ e. omega arith))))
     k
+
+pub jumps-both : (o : Op) → (o ≡ op.Jmpc) ⊎ (o ≡ op.Jmp) → jumps (op_no o) ≡ true
+jumps-both o (inl e) = rw e refl
+jumps-both o (inr e) = rw e refl
+
+pub lands-other : (code : List Word) (o : Op) (a : ℕ) → (o ≡ op.Jmpc → ⊥) → (o ≡ op.Jmp → ⊥) → lands_open code (known (op_no o) a) ≡ false
+unfolding lands_open known
+lands-other code op.End a x y = refl
+lands-other code op.Lds a x y = refl
+lands-other code op.Ldi a x y = refl
+lands-other code op.Not a x y = refl
+lands-other code op.And a x y = refl
+lands-other code op.Or a x y = refl
+lands-other code op.Close a x y = refl
+lands-other code op.Andt a x y = refl
+lands-other code op.R a x y = refl
+lands-other code op.S a x y = refl
+lands-other code op.Ra a x y = refl
+lands-other code op.Sa a x y = refl
+lands-other code op.Jmpc a x y = absurd (x refl)
+lands-other code op.Jmp a x y = absurd (y refl)
+lands-other code op.Tres a x y = refl
 
 -- a word without fault leaves at most eight open
 pub opens-eight : (n pc d : ℕ) (i : Word) → faulty n pc d i ≡ false → d ≤ 8 → opens i d ≤ 8

@@ -3,35 +3,35 @@ use Rattle.std.specs.Prelude.{Some, None}
 use mathlib.Core.Path.{◌≡◌, refl, sym, ap, ◌∙◌}
 use mathlib.Core.Bool.{Bool, true, false, ◌&&◌, ◌||◌}
 use mathlib.Core.List.{List, map}
-use Prim.Native.Nat.{ℕ, ◌+◌, ◌/◌, ◌%◌, ◌≤◌, ◌<◌}
+use Prim.Native.Nat.{ℕ, ◌+◌, ◌*◌, ◌/◌, ◌%◌, ◌≤◌, ◌<◌}
 use native.Mathlib.Omega.{arith}
 use native.Mathlib.Numerals.{add-one}
 use borrow.Author.Count.{below_more}
 use borrow.Author.Tests.{eqb-true}
 use lib.Dec.{eqb, ltb}
-use lib.ListN.{length, get_or, drop, length-map, length-replicate, replicate}
+use lib.ListN.{length, get_or, drop, length-map, replicate}
 use Rattle.faults.specs.declared.After.{After}
 use Rattle.faults.specs.declared.After.TheVariants.{Fault, Jump, Open}
 use Rattle.words.specs.Word.{Word, known, decode}
 use Rattle.faults.specs.Check.{opens, faulty, unknown, first_fault, depth_at, lands_open, first_landing}
 use Rattle.faults.specs.inside.Marks.{marked, noted, jumps, stepped}
-use Rattle.faults.proofs.CheckLaws.{or_no, fault-on, fault-here, fault-end, depth-on, depth-start, read_at, opens-most, sound-from, lands-to, lands-code, jump-code}
-use Rattle.faults.proofs.MarkLaws.{noted-now, noted-length, noted-keeps, noted-before}
+use Rattle.faults.proofs.CheckLaws.{or_no, beyond, fault-on, fault-here, fault-end, depth-on, depth-start, read_at, opens-most, sound-from, lands-to, lands-code, jump-code}
+use Rattle.faults.proofs.MarkLaws.{noted-now, noted-keeps, noted-before}
 
 -- what was told after a word, the other way round
 was-fault : (fault jump : Bool) (d : ℕ) → stepped fault jump d ≡ Fault → fault ≡ true
 was-fault true jump d h = refl
-was-fault false true d h = absurd (let z : ◌≡◌ {A = ℕ} 0 1 = cc in omega arith)
-was-fault false false d h = absurd (let z : ◌≡◌ {A = ℕ} 0 1 = cc in omega arith)
+was-fault false true d h = cc
+was-fault false false d h = cc
 
 was-jump : (fault jump : Bool) (d : ℕ) → stepped fault jump d ≡ Jump → (fault ≡ false) × (jump ≡ true)
-was-jump true jump d h = absurd (let z : ◌≡◌ {A = ℕ} 0 1 = cc in omega arith)
+was-jump true jump d h = cc
 was-jump false true d h = (refl, refl)
-was-jump false false d h = absurd (let z : ◌≡◌ {A = ℕ} 0 1 = cc in omega arith)
+was-jump false false d h = cc
 
 was-open : (fault jump : Bool) (d e : ℕ) → stepped fault jump d ≡ Open e → (fault ≡ false) × (jump ≡ false) × (d ≡ e)
-was-open true jump d e h = absurd (let z : ◌≡◌ {A = ℕ} 0 1 = cc in omega arith)
-was-open false true d e h = absurd (let z : ◌≡◌ {A = ℕ} 0 1 = cc in omega arith)
+was-open true jump d e h = cc
+was-open false true d e h = cc
 was-open false false d e h = (refl, refl, cc)
 
 -- a jump opens and closes nothing
@@ -42,7 +42,7 @@ jump-flat k a d e = go (eqb k 12) refl (eqb k 13) refl e
     go : (x : Bool) → eqb k 12 ≡ x → (y : Bool) → eqb k 13 ≡ y → (x || y) ≡ true → opens (known k a) d ≡ d
     go true p y q z = rw (eqb-true k 12 p) refl
     go false p true q z = rw (eqb-true k 13 q) refl
-    go false p false q z = absurd (let z : ◌≡◌ {A = ℕ} 0 1 = cc in omega arith)
+    go false p false q z = cc
 
 -- a parenthesis is open just before word k
 abbrev pub inside : List ℕ → ℕ → Bool
@@ -70,7 +70,6 @@ pub record Looking (ws : List ℕ) (n : ℕ) (targets : List ℕ) (landing : Boo
   pub within : at ≤ n
   pub depth : Deep ws at d
   pub same : first_fault n at d (drop at ws) ≡ first_fault n 0 0 ws
-  pub size : length targets ≡ 256
   pub aimed : (j : ℕ) → j < at → jumps (get_or ws j 0 / 16777216) ≡ true → marked targets (get_or ws j 0 % 16777216) ≡ true
   pub shut : landing ≡ false → (k : ℕ) → k < at → marked targets k ≡ true → inside ws k ≡ false
 
@@ -80,7 +79,6 @@ looking-start ws n =
       within = omega arith;
       depth = deep-start ws;
       same = refl;
-      size = length-replicate {A = ℕ} 256 0;
       aimed = λ j h. absurd (omega arith);
       shut = λ e k h. absurd (omega arith);
     }
@@ -104,7 +102,7 @@ unfolding decode
 leap n at d w e j =
     jump-code n at d (w / 16777216) (w % 16777216) j (or_no (unknown w) (faulty n at d (known (w / 16777216) (w % 16777216))) e).1
 
-module _ (ws : List ℕ) (n : ℕ) (targets : List ℕ) (landing : Bool) (at d : ℕ) (size : n ≡ length ws) (l : Looking ws n targets landing at d) where
+module _ (ws : List ℕ) (n : ℕ) (targets : List ℕ) (landing : Bool) (at d : ℕ) (size : n ≡ length ws) (full : length targets ≡ 256) (l : Looking ws n targets landing at d) where
   looking-on : n ≤ 8192 → at < n → (unknown (get_or ws at 0) || faulty n at d (decode (get_or ws at 0))) ≡ false
       → {d' : ℕ} → d' ≡ opens (decode (get_or ws at 0)) d → {landing' : Bool} → landing' ≡ (landing || (ltb 0 d && marked targets at))
       → {targets' : List ℕ} → targets' ≡ noted (jumps (get_or ws at 0 / 16777216)) targets (get_or ws at 0 % 16777216)
@@ -118,15 +116,14 @@ module _ (ws : List ℕ) (n : ℕ) (targets : List ℕ) (landing : Bool) (at d :
         within = omega arith;
         depth = deep-on ws at d (omega arith) l.depth ed;
         same = rw (ed, add-one at) (sym (fault-on n d ws at (omega arith) e) ∙ l.same);
-        size = rw et (noted-length jump targets t ∙ l.size);
         aimed =
             rw et
-            (below_more _ _ (λ j b q. noted-keeps targets t l.size jump fits (get_or ws j 0 % 16777216) (l.aimed j b q))
-            (λ q. rw q (noted-now targets t l.size (fits q))));
+            (below_more _ _ (λ j b q. noted-keeps targets t full jump fits (get_or ws j 0 % 16777216) (l.aimed j b q))
+            (λ q. rw q (noted-now targets t full (fits q))));
         shut = λ f k b m.
             let no = or_no landing (ltb 0 d && marked targets at) (sym el ∙ f) in
             let was : marked targets k ≡ true =
-            sym (noted-before targets t l.size jump fits k (λ j. omega (arith, (leap n at d w e j).0))) ∙ rw et at m in
+            sym (noted-before targets t full jump fits k (λ j. omega (arith, (leap n at d w e j).0))) ∙ rw et at m in
             below_more (λ (k : ℕ). marked targets k ≡ true → inside ws k ≡ false) _ (l.shut no.0)
             (λ q. rw (← l.depth.deep) (and-not (ltb 0 d) (marked targets at) no.1 q)) k b was;
       }
@@ -160,6 +157,13 @@ module _ (ws : List ℕ) (n : ℕ) (targets : List ℕ) (landing : Bool) (at d :
 
   pub looking-hit : at < n → here ≡ Fault → first_fault n 0 0 ws ≡ Some at
   looking-hit h e = sym l.same ∙ fault-here n d ws at (omega arith) (was-fault _ _ _ e)
+
+  -- a code byte that nothing has
+  pub looking-unknown : at < n → 15 ≤ get_or ws at 0 / 16777216 → first_fault n 0 0 ws ≡ Some at
+  looking-unknown h k =
+      let w = get_or ws at 0 in
+      let whole : w / 16777216 * 16777216 + w % 16777216 ≡ w = omega arith in
+      sym l.same ∙ fault-here n d ws at (omega arith) (rw whole at (beyond n at d (w / 16777216) (w % 16777216) (omega arith) k))
 
   pub looking-end : n ≤ at → first_fault n 0 0 ws ≡ None
   looking-end h = sym l.same ∙ fault-end n d ws at (omega arith)

@@ -3,15 +3,14 @@ use mathlib.Core.Path.{◌≡◌, refl, ap, ◌∙◌}
 use mathlib.Core.Logic.{◌≢◌}
 use mathlib.Core.Bool.{Bool, true, false}
 use mathlib.Core.List.{List}
-use Prim.Native.Nat.{ℕ, zero, suc, ◌+◌, ◌*◌, ◌/◌, ◌%◌, ◌^◌, ◌≤◌, ◌<◌}
+use Prim.Native.Nat.{ℕ, zero, suc, ◌+◌, ◌*◌, ◌/◌, ◌%◌, ◌≤◌, ◌<◌}
 use native.Mathlib.Omega.{arith}
 use borrow.Author.Count.{below_more}
 use borrow.Author.Tests.{eqb-true, eqb-false}
 use lib.Dec.{eqb}
-use lib.ListN.{length, get_or, set, length-set, replicate, get_or-replicate, length-replicate}
+use lib.ListN.{length, get_or, set, replicate, get_or-replicate}
 use lib.Seq.{get_or-set_same, get_or-set_other}
 use Rattle.bits.specs.Word.{get_bit, put_bit}
-use Rattle.bits.proofs.WordLaws.{put-known, one_shl}
 use Rattle.faults.specs.inside.Marks.{marked, noted}
 
 low : (w y : ℕ) → (w % 2 + 2 * y) % 2 ≡ w % 2
@@ -45,11 +44,6 @@ bit-zero (suc i) = bit-zero i
 pub blank : (k : ℕ) → k < 8192 → marked (replicate 256 0) k ≡ false
 unfolding marked
 blank k h = rw (get_or-replicate {A = ℕ} 256 (k / 32) 0 0 (omega arith)) (bit-zero (k % 32))
-
-pub noted-length : (b : Bool) (marks : List ℕ) (k : ℕ) → length (noted b marks k) ≡ length marks
-unfolding noted
-noted-length true marks k = simp length-set
-noted-length false marks k = refl
 
 module _ (marks : List ℕ) (k : ℕ) (size : length marks ≡ 256) (small : k < 8192) where
   pub noted-now : marked (noted true marks k) k ≡ true
@@ -97,24 +91,18 @@ module _ (marks : List ℕ) (k : ℕ) (size : length marks ≡ 256) where
   noted-before false small j less = refl
 
 -- below `at` the marks are p, and from there on there is none
-pub record Marks (p : ℕ → Bool) (marks : List ℕ) (at : ℕ) : Type 0 where
-  pub size : length marks ≡ 256
+pub record Marked (p : ℕ → Bool) (marks : List ℕ) (at : ℕ) : Type 0 where
   pub below : (k : ℕ) → k < at → marked marks k ≡ p k
   pub above : (k : ℕ) → at ≤ k → k < 8192 → marked marks k ≡ false
 
-pub marks-start : (p : ℕ → Bool) → Marks p (replicate 256 0) 0
-marks-start p = record { size = length-replicate {A = ℕ} 256 0; below = λ k h. absurd (omega arith); above = λ k l h. blank k h }
+pub marked-start : (p : ℕ → Bool) → Marked p (replicate 256 0) 0
+marked-start p = record { below = λ k h. absurd (omega arith); above = λ k l h. blank k h }
 
-pub marks-on : (p : ℕ → Bool) (marks : List ℕ) (at : ℕ) → at < 8192 → Marks p marks at → Marks p (noted (p at) marks at) (at + 1)
-marks-on p marks at h m =
+pub marked-on : (p : ℕ → Bool) (marks : List ℕ) (at : ℕ) → length marks ≡ 256 → at < 8192 → Marked p marks at → Marked p (noted (p at) marks at) (at + 1)
+marked-on p marks at full h m =
     record {
-      size = noted-length (p at) marks at ∙ m.size;
       below =
-          below_more _ _ (λ k l. noted_other marks at m.size h (p at) k (λ e. omega arith) ∙ m.below k l)
-          (noted-same marks at m.size h (p at) (m.above at (omega arith) h));
-      above = λ k l b. noted_other marks at m.size h (p at) k (λ e. omega arith) ∙ m.above k (omega arith) b;
+          below_more _ _ (λ k l. noted_other marks at full h (p at) k (λ e. omega arith) ∙ m.below k l)
+          (noted-same marks at full h (p at) (m.above at (omega arith) h));
+      above = λ k l b. noted_other marks at full h (p at) k (λ e. omega arith) ∙ m.above k (omega arith) b;
     }
-
--- a bit that is clear is put by a sum, as the code adds it
-pub clear-add : (w i : ℕ) → i < 32 → get_bit w i ≡ false → w + 1 * 2 ^ i % 4294967296 ≡ put_bit w i true
-clear-add w i h e = omega (arith, put-known w i true false e, one_shl i h)

@@ -73,9 +73,9 @@ parts s h =
     go : (x : Bool) → end_fault s ≡ x → (y : Option ℕ) → first_fault (length (words s)) 0 0 (words s) ≡ y
         → (z : Option ℕ) → first_landing (map decode (words s)) 0 (map decode (words s)) ≡ z
         → cond x (Err refuse.CodeEnd) (refuse_at refuse.Word y (refuse_at refuse.Landing z (Ok tt))) ≡ (Ok tt) → Parts s
-    go true p y q z r e = absurd (let o : ◌≡◌ {A = ℕ} 0 1 = cc in omega arith)
-    go false p (Some w) q z r e = absurd (let o : ◌≡◌ {A = ℕ} 0 1 = cc in omega arith)
-    go false p None q (Some w) r e = absurd (let o : ◌≡◌ {A = ℕ} 0 1 = cc in omega arith)
+    go true p y q z r e = cc
+    go false p (Some w) q z r e = cc
+    go false p None q (Some w) r e = cc
     go false p None q None r e = record { ended = p; sound = q; lands = r }
 
 -- code that passed: its length, and each of its words

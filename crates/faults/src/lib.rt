@@ -4,27 +4,53 @@
 ghost use Rattle.std.specs.Prelude.{◌≡◌, true, false, ◌&&◌, ◌||◌, map, ℕ, pred, ◌+◌, ◌*◌, ◌≤◌, ◌<◌, length, replicate, eqb, ltb};
 ghost use Rattle.answer.specs.declared.Refusal.TheVariants.{Landing};
 ghost use Rattle.answer.specs.Lowest.{refuse_at};
-ghost use Rattle.bits.specs.Word.{get_bit, put_bit};
+ghost use Rattle.words.specs.Op.{op_no};
 ghost use Rattle.words.specs.Word.{known, decode, words, word_at};
 ghost use Rattle.faults.specs.Check.{end_fault, opens, faulty, unknown, first_fault, depth_at, lands_open, first_landing, ChecksCode};
 ghost use Rattle.faults.specs.inside.Marks.{marked, noted, jumps, stepped, PassTells, AllMarked};
 
 use answer::{Checked, Refusal};
+use words::Op;
 
 // What follows a word: it is at fault; or it is a jump, and as many parentheses are open as before it; or so many are open.
-#[derive(Clone, Copy)]
+#[derive(Clone, Copy, Debug, PartialEq, Eq)]
 enum After {
     Fault,
     Jump,
     Open(usize),
 }
 
-// What one pass over the words tells: the first at fault; or, where none is, whether some jump lands inside a parenthesis.
-#[derive(Clone, Copy)]
-enum Pass {
-    Fault(usize),
-    Landing,
-    Sound,
+// A mark for each word that code may have.
+#[derive(Drop)]
+struct Marks {
+    bits: [u32; 256],
+    ghost full: { length bits ≡ 256 },
+}
+
+impl Marks {
+    fn none() -> Marks
+        ensures { result.bits ≡ replicate 256 0 }
+    {
+        Marks { bits: [0; 256] }
+    }
+
+    // Whether word k is marked.
+    fn has(&self, k: usize) -> bool
+        requires { k < 8192 }
+        ensures { result ≡ marked self.now.bits k }
+    {
+        let bit = k as u32;
+        bits::get_bit(self.bits[(bit / 32) as usize], bit % 32)
+    }
+
+    // Marks word k, which may be marked already.
+    fn mark(&mut self, k: usize)
+        requires { k < 8192 }
+        ensures { self.new.bits ≡ noted true self.old.bits k }
+    {
+        let i = k / 32;
+        self.bits[i] = bits::set_bit(self.bits[i], (k % 32) as u32);
+    }
 }
 
 // 15: the end is judged by one byte, so that the rest of the last word is left to 16.
@@ -33,16 +59,7 @@ fn end_fault(code: &[u8]) -> bool
     ensures { result ≡ end_fault code.now }
 {
     let len = code.len();
-    if len == 0 {
-        return true;
-    }
-    if 32768 < len {
-        return true;
-    }
-    if 0 < len % 4 {
-        return true;
-    }
-    0 < code[len - 4]
+    len == 0 || 32768 < len || 0 < len % 4 || 0 < code[len - 4]
 }
 
 // After a word that leaves d parentheses open, unless it is at fault.
@@ -70,190 +87,109 @@ fn jumped(fault: bool) -> After
 }
 
 // After word `at` of n, with d parentheses open before it.
-fn after_word(n: usize, at: usize, d: usize, op: u8, arg: usize) -> After
+fn after_word(n: usize, at: usize, d: usize, op: Op, arg: usize) -> After
     requires { (arg < 16777216) × (d < 65536) }
-    ensures { result ≡ stepped (unknown (op * 16777216 + arg) || faulty n at d (decode (op * 16777216 + arg))) (jumps op) (opens (known op arg) d) }
+    ensures { let w = op_no op * 16777216 + arg in
+        result ≡ stepped (unknown w || faulty n at d (decode w)) (jumps (op_no op)) (opens (known (op_no op) arg) d) }
 {
     match op {
-        0 => unless((0 < arg) | (0 < d), d),
-        1 => unless((31 < arg) | (0 < d), d),
-        2 => unless(15 < arg, d),
-        3 => unless(0 < arg, d),
-        4 => unless((0 < arg) | (8 <= d), d + 1),
-        5 => unless((0 < arg) | (8 <= d), d + 1),
-        6 => closed(0 < arg, d),
-        7 => unless(false, d),
-        8 => unless(31 < arg, d),
-        9 => unless(31 < arg, d),
-        10 => unless(15 < arg, d),
-        11 => unless(15 < arg, d),
-        12 => jumped(!((at < arg) & (arg < n)) | (0 < d)),
-        13 => jumped(!((at < arg) & (arg < n)) | (0 < d)),
-        14 => unless(0 < arg, d),
-        _ => After::Fault,
+        Op::End => unless((0 < arg) | (0 < d), d),
+        Op::Lds => unless((31 < arg) | (0 < d), d),
+        Op::Not | Op::Tres => unless(0 < arg, d),
+        Op::And | Op::Or => unless((0 < arg) | (8 <= d), d + 1),
+        Op::Close => closed(0 < arg, d),
+        Op::Andt => unless(false, d),
+        Op::R | Op::S => unless(31 < arg, d),
+        Op::Ldi | Op::Ra | Op::Sa => unless(15 < arg, d),
+        Op::Jmpc | Op::Jmp => jumped(!((at < arg) & (arg < n)) | (0 < d)),
     }
 }
 
 // The parentheses open after a word.
-fn opened(op: u8, d: usize) -> usize
+fn opened(op: Op, d: usize) -> usize
     requires { d < 65536 }
-    ensures { (a : ℕ) → result ≡ opens (known op a) d }
+    ensures { (a : ℕ) → result ≡ opens (known (op_no op) a) d }
 {
-    if op == 4 {
-        return d + 1;
-    }
-    if op == 5 {
-        return d + 1;
-    }
-    if op == 6 {
-        if d == 0 {
-            return 0;
-        }
-        return d - 1;
-    }
-    d
-}
-
-// The word with bit i made 1, where it is 0: a sum, with no test.
-fn add_bit(w: u32, i: u32) -> u32
-    requires { (i < 32) × (get_bit w i ≡ false) }
-    ensures { result ≡ put_bit w i true }
-{
-    w + (1 << i)
-}
-
-// Marks word `at`, which is not marked yet, where a parenthesis is open before it.
-fn note(marks: &mut [u32; 256], at: usize, inside: bool)
-    requires { (at < 8192) × (length marks.old ≡ 256) × (marked marks.old at ≡ false) }
-    ensures { marks.new ≡ noted inside marks.old at }
-{
-    if inside {
-        let i = at / 32;
-        marks[i] = add_bit(marks[i], (at % 32) as u32);
+    match op {
+        Op::And | Op::Or => d + 1,
+        Op::Close => d.saturating_sub(1),
+        _ => d,
     }
 }
 
-// Whether word k is marked.
-fn is_marked(marks: &[u32; 256], k: usize) -> bool
-    requires { k < 8192 }
-    ensures { result ≡ marked marks.now k }
-{
-    let bit = k as u32;
-    bits::get_bit(marks[(bit / 32) as usize], bit % 32)
-}
-
-// Marks word k, which may be marked already.
-fn aim(targets: &mut [u32; 256], k: usize)
-    requires { (k < 8192) × (length targets.old ≡ 256) }
-    ensures { targets.new ≡ noted true targets.old k }
-{
-    let i = k / 32;
-    targets[i] = bits::set_bit(targets[i], (k % 32) as u32);
-}
-
-// Whether word `at` is marked, and a parenthesis is open before it.
-fn marked_inside(targets: &[u32; 256], at: usize, d: usize) -> bool
-    requires { at < 8192 }
-    ensures { result ≡ (ltb 0 d && marked targets.now at) }
-{
-    if 0 < d {
-        return is_marked(targets, at);
-    }
-    false
-}
-
-// 16, and whether there is a 17. The targets of jumps are marked: they go forward, so that at each word all jumps to it have been met.
-fn one_pass(code: &[u8], n: usize) -> Pass
-    requires { (n ≡ length (words code.now)) × (n * 4 ≤ length code.now) × (n ≤ 8192) }
+// 16; or else whether there is a 17. The targets of jumps are marked: they go forward, so that at each word all jumps to it have been met.
+fn one_pass(code: &[u8]) -> Result<bool, Refusal>
+    requires { length code.now ≤ 32768 }
     ensures { PassTells code.now result }
 {
-    let mut targets = [0u32; 256];
+    let n = code.len() / 4;
+    let mut targets = Marks::none();
     let mut landing = false;
-    let mut at = 0;
     let mut d = 0;
-    while at < n {
-        if marked_inside(&targets, at, d) {
+    for at in 0..n {
+        if 0 < d && targets.has(at) {
             landing = true;
         }
-        let op = words::code_byte(code, at);
+        let Ok(op) = words::op_at(code, at) else {
+            return Err(Refusal::Word(at));
+        };
         let arg = words::operand(code, at);
-        let next = after_word(n, at, d, op, arg);
-        match next {
-            After::Fault => return Pass::Fault(at),
-            After::Jump => aim(&mut targets, arg),
-            After::Open(e) => {
-                d = e;
-            }
+        match after_word(n, at, d, op, arg) {
+            After::Fault => return Err(Refusal::Word(at)),
+            After::Jump => targets.mark(arg),
+            After::Open(e) => d = e,
         }
-        at += 1;
     }
-    if landing { Pass::Landing } else { Pass::Sound }
+    Ok(landing)
 }
 
-// Marks each of n words before which a parenthesis is open.
-fn mark_open(code: &[u8], n: usize, marks: &mut [u32; 256])
-    requires n_value { (n ≡ length (words code.now)) × (n * 4 ≤ length code.now) × (n ≤ 8192) }
-    requires marks_value { marks.old ≡ replicate 256 0 }
-    ensures { (k : ℕ) → k < n → marked marks.new k ≡ ltb 0 (depth_at 0 (map decode (words code.now)) k) }
+// Marks each word before which a parenthesis is open.
+fn mark_open(code: &[u8]) -> Marks
+    requires { length code.now ≤ 32768 }
+    ensures { let ws = words code.now in
+        (k : ℕ) → k < length ws → marked result.bits k ≡ ltb 0 (depth_at 0 (map decode ws) k) }
 {
-    let mut at = 0;
+    let mut marks = Marks::none();
     let mut d = 0;
-    while at < n {
-        note(marks, at, 0 < d);
-        d = opened(words::code_byte(code, at), d);
-        at += 1;
+    for at in 0..code.len() / 4 {
+        if 0 < d {
+            marks.mark(at);
+        }
+        if let Ok(op) = words::op_at(code, at) {
+            d = opened(op, d);
+        }
     }
+    marks
 }
 
 // Whether word `at` is a jump to a word before which a parenthesis is open.
-fn lands_open(code: &[u8], marks: &[u32; 256], at: usize) -> bool
+fn lands_open(code: &[u8], marks: &Marks, at: usize) -> bool
     requires at_in_bounds { at < length (words code.now) }
-    requires all_marked { AllMarked code.now marks.now }
+    requires all_marked { AllMarked code.now marks.now.bits }
     ensures { result ≡ lands_open (map decode (words code.now)) (decode (word_at code.now at)) }
 {
-    let op = words::code_byte(code, at);
-    if (op == 12) | (op == 13) {
-        let target = words::operand(code, at);
-        return is_marked(marks, target);
+    let Ok(op) = words::op_at(code, at) else {
+        return false;
+    };
+    match op {
+        Op::Jmpc | Op::Jmp => marks.has(words::operand(code, at)),
+        _ => false,
     }
-    false
 }
 
-// 17: the first of n words that is such a jump, where the words are marked.
-fn first_landing(code: &[u8], n: usize, marks: &[u32; 256]) -> Option<usize>
-    requires n_value { n ≡ length (words code.now) }
-    requires all_marked { AllMarked code.now marks.now }
-    ensures { result ≡ first_landing (map decode (words code.now)) 0 (map decode (words code.now)) }
+// 17, in two passes more: the first jump to such a word.
+fn check_landings(code: &[u8]) -> Checked
+    requires code_few { length code.now ≤ 32768 }
+    requires code_sound { first_fault (length (words code.now)) 0 0 (words code.now) ≡ None }
+    ensures { let is = map decode (words code.now) in result ≡ refuse_at Landing (first_landing is 0 is) (Ok tt) }
 {
-    let mut at = 0;
-    while at < n {
-        if lands_open(code, marks, at) {
-            return Some(at);
+    let marks = mark_open(code);
+    for at in 0..code.len() / 4 {
+        if lands_open(code, &marks, at) {
+            return Err(Refusal::Landing(at));
         }
-        at += 1;
     }
-    None
-}
-
-// 17, in two passes more.
-fn lowest_landing(code: &[u8], n: usize) -> Option<usize>
-    requires n_value { (n ≡ length (words code.now)) × (length code.now ≤ 32768) }
-    requires code_value { first_fault (length (words code.now)) 0 0 (words code.now) ≡ Nothing }
-    ensures { result ≡ first_landing (map decode (words code.now)) 0 (map decode (words code.now)) }
-{
-    let mut marks = [0u32; 256];
-    mark_open(code, n, &mut marks);
-    first_landing(code, n, &marks)
-}
-
-// The answer by what was found for 17.
-fn landed(landing: Option<usize>) -> Checked
-    ensures { result ≡ refuse_at Landing landing Accepted }
-{
-    match landing {
-        Some(word) => Err(Refusal::Landing(word)),
-        None => Ok(()),
-    }
+    Ok(())
 }
 
 // Whether code may be run: 15, then 16, then 17, each at its lowest place. The words are passed over again only if there is a 17.
@@ -263,11 +199,8 @@ pub fn check_code(code: &[u8]) -> Checked
     if end_fault(code) {
         return Err(Refusal::CodeEnd);
     }
-    let n = code.len() / 4;
-    let pass = one_pass(code, n);
-    match pass {
-        Pass::Fault(word) => Err(Refusal::Word(word)),
-        Pass::Landing => landed(lowest_landing(code, n)),
-        Pass::Sound => Ok(()),
+    if one_pass(code)? {
+        return check_landings(code);
     }
+    Ok(())
 }

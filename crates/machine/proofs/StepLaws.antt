@@ -11,6 +11,9 @@ use lib.ListN.{length}
 use mir.Val.{bool_byte}
 use Rattle.bits.specs.Word.{get_bit}
 use Rattle.machine.specs.declared.Midway.{Midway}
+use Rattle.words.specs.declared.Op.{Op}
+use Rattle.words.specs.declared.Op.TheVariants as op
+use Rattle.words.specs.Op.{op_no}
 use Rattle.words.specs.Word.{LDS, LDI, NOT, ANDP, ORP, PAR, ANDT, R, S, RA, SA, JMPC, JMP, TRES, known}
 use Rattle.machine.specs.Machine.{Frame, and_f, or_f, join, with_clock, flag_to, out_to, exec}
 use Rattle.faults.specs.Check.{opens, faulty}
@@ -65,50 +68,50 @@ room : (x : ℕ) (st : List Frame) → x ≡ enc st → leb 8 (length st) ≡ fa
 room x st e h = omega (arith, enc-small 8 st (omega (arith, leb-false 8 (length st) h)))
 
 -- what a word without fault says of its operand and of what is put aside
-module _ {pc k a x : ℕ} (r : Executable pc k a x) where
-  pub lds-small : k ≡ 1 → a < 32
+module _ {o : Op} {pc a x : ℕ} (r : Executable o pc a x) where
+  pub lds-small : o ≡ op.Lds → a < 32
   unfolding known faulty
   lds-small e = below 31 a (or_no (ltb 31 a) (ltb 0 (length r.stack)) (rw e at r.sound)).0
 
-  pub ldi-small : k ≡ 2 → a < 16
+  pub ldi-small : o ≡ op.Ldi → a < 16
   unfolding known faulty
   ldi-small e = below 15 a (rw e at r.sound)
 
-  pub r_small : k ≡ 8 → a < 32
+  pub r_small : o ≡ op.R → a < 32
   unfolding known faulty
   r_small e = below 31 a (rw e at r.sound)
 
-  pub s-small : k ≡ 9 → a < 32
+  pub s-small : o ≡ op.S → a < 32
   unfolding known faulty
   s-small e = below 31 a (rw e at r.sound)
 
-  pub ra-small : k ≡ 10 → a < 16
+  pub ra-small : o ≡ op.Ra → a < 16
   unfolding known faulty
   ra-small e = below 15 a (rw e at r.sound)
 
-  pub sa-small : k ≡ 11 → a < 16
+  pub sa-small : o ≡ op.Sa → a < 16
   unfolding known faulty
   sa-small e = below 15 a (rw e at r.sound)
 
-  pub and-room : k ≡ 4 → x < 65536
+  pub and-room : o ≡ op.And → x < 65536
   unfolding known faulty
   and-room e = room x r.stack r.held (rw e at r.sound)
 
-  pub or-room : k ≡ 5 → x < 65536
+  pub or-room : o ≡ op.Or → x < 65536
   unfolding known faulty
   or-room e = room x r.stack r.held (rw e at r.sound)
 
-  pub jmpc-forward : k ≡ 12 → pc < a
+  pub jmpc-forward : o ≡ op.Jmpc → pc < a
   unfolding known faulty
   jmpc-forward e = (jump_ok r.n pc (length r.stack) a (rw e at r.sound)).0
 
-  pub jmp-forward : k ≡ 13 → pc < a
+  pub jmp-forward : o ≡ op.Jmp → pc < a
   unfolding known faulty
   jmp-forward e = (jump_ok r.n pc (length r.stack) a (rw e at r.sound)).0
 
 -- each word, from a machine that holds the stack st
 module _ (x : ℕ) (m : Midway) (st : List Frame) (e : m.aside ≡ enc st) where
-  pub lds : (a : ℕ) → Executes x (LDS a) m (midway (m.at + 1) (get_bit m.flags a) m.aside (mach_in m)) st
+  pub lds : (a : ℕ) → Executes x (LDS a) m (midway (m.at + 1) (get_bit m.«record».flags a) m.aside (mach_in m)) st
   unfolding opens passed exec
   lds a = record { stack = st; held = e; deep = refl; next = omega arith; goes = λ n is. refl }
 
@@ -130,7 +133,7 @@ module _ (x : ℕ) (m : Midway) (st : List Frame) (e : m.aside ≡ enc st) where
   or-aside =
       record { stack = or_f m.result ∷ st; held = omega (arith, e, bit_is m.result); deep = refl; next = omega arith; goes = λ n is. refl }
 
-  pub andt : (a : ℕ) → Executes x (ANDT a) m (midway (m.at + 1) (m.result && leb a m.clock) m.aside (mach_in m)) st
+  pub andt : (a : ℕ) → Executes x (ANDT a) m (midway (m.at + 1) (m.result && leb a m.«record».clock) m.aside (mach_in m)) st
   unfolding opens passed exec
   andt a = record { stack = st; held = e; deep = refl; next = omega arith; goes = λ n is. refl }
 

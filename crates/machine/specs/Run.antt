@@ -1,8 +1,8 @@
 -- The runner: "The runner refuses faulty code, else brings the clock forward as above and starts at word 0."
 use Rattle.std.specs.Prelude.{◌≡◌, List, map, ℕ, Ok, Err}
 use Rattle.answer.specs.Checked.{Checked}
-use Rattle.machine.specs.declared.Record.{Record}
 use Rattle.answer.specs.declared.Answered.{Answered}
+use Rattle.machine.specs.declared.Record.{Record}
 use Rattle.words.specs.Word.{decode, words}
 use Rattle.machine.specs.Machine.{Mach, mach_with, run_scan}
 use Rattle.faults.specs.Check.{check_code}

@@ -4,16 +4,18 @@
 ghost use Rattle.std.specs.Prelude.{◌≡◌, false, List, [], map, ◌+◌, ◌*◌, ◌/◌, ◌%◌, ◌<◌};
 ghost use mir.Val.{bool_byte};
 ghost use Rattle.bits.specs.Word.{put_bit};
+ghost use Rattle.words.specs.Op.{op_no};
 ghost use Rattle.words.specs.Word.{known, decode, words};
 ghost use Rattle.faults.specs.Check.{check_code};
-ghost use Rattle.machine.specs.Machine.{Frame, with_clock, flag_to, out_to, exec};
-ghost use Rattle.machine.specs.Run.{record_with, ran_with, mach_of, record_of, Runs};
-ghost use Rattle.machine.specs.inside.Midway.{midway, mach_in, join_top, enc, Executable, Executes};
+ghost use Rattle.machine.specs.Machine.{Frame, flag_to, out_to, exec};
+ghost use Rattle.machine.specs.Run.{record_with, mach_of, record_of, Runs};
+ghost use Rattle.machine.specs.inside.Midway.{mach_in, join_top, enc, Executable, Executes};
 
-use answer::Checked;
+use answer::Answered;
+use words::Op;
 
 // What a scan is given and hands back: flag s has weight 2^s, output a has weight 2^a.
-#[derive(Clone, Copy)]
+#[derive(Clone, Copy, Debug, PartialEq, Eq)]
 pub struct Record {
     pub flags: u32,
     pub outputs: u16,
@@ -21,195 +23,127 @@ pub struct Record {
 }
 
 // A scan's answer: where the code is refused, the record is the one that was given.
-#[derive(Clone, Copy)]
-pub struct Ran {
-    pub verdict: Checked,
-    pub record: Record,
-}
+pub type Ran = Answered<Record>;
 
-// The one builder of a record, and of a scan's answer.
+// The one builder of a record.
 pub fn record_with(flags: u32, outputs: u16, clock: u32) -> Record
     ensures { result ≡ record_with flags outputs clock }
 {
     Record {
-        flags: flags,
-        outputs: outputs,
-        clock: clock,
+        flags,
+        outputs,
+        clock,
     }
 }
 
-fn ran_with(verdict: Checked, record: Record) -> Ran
-    ensures { result ≡ ran_with verdict «record» }
+// The word with bit i made on or off.
+fn put_bit(w: u32, i: u32, on: bool) -> u32
+    requires { i < 32 }
+    ensures { result ≡ put_bit w i on }
 {
-    Ran {
-        verdict: verdict,
-        record: record,
-    }
+    if on { bits::set_bit(w, i) } else { bits::clear_bit(w, i) }
 }
 
 // The machine between two words. What is put aside stands in base 4, the last one in the lowest digit: 2 for AND(, 1 for a true result.
-#[derive(Clone, Copy)]
+#[derive(Clone, Copy, Debug, PartialEq, Eq)]
 struct Midway {
     at: usize,
     result: bool,
     aside: u32,
-    flags: u32,
-    outputs: u16,
-    clock: u32,
+    record: Record,
 }
 
-// LDS, LDI, NOT and ANDT: the next word, with this result.
-fn loaded(m: Midway, res: bool) -> Midway
-    requires { m.at < 8192 }
-    ensures { result ≡ midway (m.at + 1) res m.aside (mach_in m) }
-{
-    let mut r = m;
-    r.at = m.at + 1;
-    r.result = res;
-    r
-}
-
-// AND( and OR(: one more digit.
-fn put_aside(m: Midway, and: bool) -> Midway
-    requires { (m.at < 8192) × (m.aside < 65536) }
-    ensures { result ≡ midway (m.at + 1) m.result (m.aside * 4 + 2 * bool_byte and + bool_byte m.result) (mach_in m) }
-{
-    let mut r = m;
-    r.at = m.at + 1;
-    r.aside = m.aside * 4 + 2 * (and as u32) + (m.result as u32);
-    r
-}
-
-// ): the lowest digit is joined with the result and taken off.
-#[tactic(auto, unfolding(crate::specs::inside::Midway::join_top))]
-fn joined(m: Midway) -> Midway
-    requires { m.at < 8192 }
-    ensures { result ≡ midway (m.at + 1) (join_top (m.aside % 4) m.result) (m.aside / 4) (mach_in m) }
-{
-    let mut r = m;
-    r.at = m.at + 1;
-    r.aside = m.aside / 4;
-    let top = m.aside % 4;
-    let kept = top % 2 == 1;
-    if top < 2 {
-        r.result = kept | m.result;
-    } else {
-        r.result = kept & m.result;
+impl Midway {
+    // AND( and OR(: one more digit.
+    fn put_aside(&mut self, and: bool)
+        requires { self.old.aside < 65536 }
+        ensures { self.new ≡ record self.old { aside = self.old.aside * 4 + 2 * bool_byte and + bool_byte self.old.result } }
+    {
+        self.aside = self.aside * 4 + 2 * (and as u32) + (self.result as u32);
     }
-    r
-}
 
-// R and S.
-#[tactic(auto, unfolding(crate::specs::Machine::flag_to))]
-fn flag_to(m: Midway, i: u32, on: bool) -> Midway
-    requires { (m.at < 8192) × (i < 32) }
-    ensures { result ≡ midway (m.at + 1) m.result m.aside (flag_to m.result (mach_in m) i on) }
-{
-    let mut r = m;
-    r.at = m.at + 1;
-    if !m.result {
-        return r;
+    // ): the lowest digit is joined with the result and taken off.
+    #[tactic(auto, unfolding(crate::specs::inside::Midway::join_top))]
+    fn join(&mut self)
+        ensures { self.new ≡ record self.old { result = join_top (self.old.aside % 4) self.old.result; aside = self.old.aside / 4 } }
+    {
+        let top = self.aside % 4;
+        let kept = top % 2 == 1;
+        self.result = if top < 2 { kept | self.result } else { kept & self.result };
+        self.aside /= 4;
     }
-    if on {
-        r.flags = bits::set_bit(m.flags, i);
-    } else {
-        r.flags = bits::clear_bit(m.flags, i);
+
+    // R and S.
+    #[tactic(auto, unfolding(crate::specs::Machine::flag_to))]
+    fn flag_to(&mut self, i: u32, on: bool)
+        requires { i < 32 }
+        ensures { let m = self.old in self.new ≡ record m { «record» = record_of (flag_to m.result (mach_in m) i on) } }
+    {
+        if self.result {
+            self.record.flags = put_bit(self.record.flags, i, on);
+        }
     }
-    r
-}
 
-// The output word with output i made on or off.
-fn put_output(w: u16, i: u32, on: bool) -> u16
-    requires { i < 16 }
-    ensures { result ≡ put_bit w i on }
-{
-    if on {
-        bits::set_bit(w as u32, i) as u16
-    } else {
-        bits::clear_bit(w as u32, i) as u16
+    // RA and SA.
+    #[tactic(auto, unfolding(crate::specs::Machine::out_to))]
+    fn output_to(&mut self, i: u32, on: bool)
+        requires { i < 16 }
+        ensures { let m = self.old in self.new ≡ record m { «record» = record_of (out_to m.result (mach_in m) i on) } }
+    {
+        if self.result {
+            self.record.outputs = put_bit(self.record.outputs as u32, i, on) as u16;
+        }
     }
-}
 
-// RA and SA.
-#[tactic(auto, unfolding(crate::specs::Machine::out_to))]
-fn output_to(m: Midway, i: u32, on: bool) -> Midway
-    requires { (m.at < 8192) × (i < 16) }
-    ensures { result ≡ midway (m.at + 1) m.result m.aside (out_to m.result (mach_in m) i on) }
-{
-    let mut r = m;
-    r.at = m.at + 1;
-    if m.result {
-        r.outputs = put_output(m.outputs, i, on);
-    }
-    r
-}
-
-// JMPC and JMP: the word that comes next.
-fn went(m: Midway, word: usize) -> Midway
-    ensures { result ≡ midway word m.result m.aside (mach_in m) }
-{
-    let mut r = m;
-    r.at = word;
-    r
-}
-
-// TRES.
-fn clock_zeroed(m: Midway) -> Midway
-    requires { m.at < 8192 }
-    ensures { result ≡ midway (m.at + 1) m.result m.aside (with_clock (mach_in m) 0) }
-{
-    let mut r = m;
-    r.at = m.at + 1;
-    r.clock = 0;
-    r
-}
-
-// The machine after one word that is not END.
-fn step(m: Midway, op: u8, arg: usize, inputs: u16) -> Midway
-    requires at_bound { m.at < 8192 }
-    requires executable { Executable m.at op arg m.aside }
-    ensures { (st : List Frame) → m.aside ≡ enc st → Executes inputs (known op arg) m result st }
-{
-    match op {
-        1 => loaded(m, bits::get_bit(m.flags, arg as u32)),
-        2 => loaded(m, bits::get_bit(inputs as u32, arg as u32)),
-        3 => loaded(m, !m.result),
-        4 => put_aside(m, true),
-        5 => put_aside(m, false),
-        6 => joined(m),
-        7 => loaded(m, m.result & (arg <= m.clock as usize)),
-        8 => flag_to(m, arg as u32, false),
-        9 => flag_to(m, arg as u32, true),
-        10 => output_to(m, arg as u32, false),
-        11 => output_to(m, arg as u32, true),
-        12 => went(m, if m.result { arg } else { m.at + 1 }),
-        13 => went(m, arg),
-        14 => clock_zeroed(m),
-        _ => m,
+    // One word that is not END.
+    fn step(&mut self, op: Op, arg: usize, inputs: u16)
+        requires { Executable op self.old.at arg self.old.aside }
+        ensures { (st : List Frame) → self.old.aside ≡ enc st → Executes inputs (known (op_no op) arg) self.old self.new st }
+    {
+        let bit = arg as u32;
+        self.at += 1;
+        match op {
+            Op::End => unreachable!(),
+            Op::Lds => self.result = bits::get_bit(self.record.flags, bit),
+            Op::Ldi => self.result = bits::get_bit(inputs as u32, bit),
+            Op::Not => self.result = !self.result,
+            Op::And => self.put_aside(true),
+            Op::Or => self.put_aside(false),
+            Op::Close => self.join(),
+            Op::Andt => self.result &= bit <= self.record.clock,
+            Op::R => self.flag_to(bit, false),
+            Op::S => self.flag_to(bit, true),
+            Op::Ra => self.output_to(bit, false),
+            Op::Sa => self.output_to(bit, true),
+            Op::Jmpc => {
+                if self.result {
+                    self.at = arg;
+                }
+            }
+            Op::Jmp => self.at = arg,
+            Op::Tres => self.record.clock = 0,
+        }
     }
 }
 
 // The words from 0 to END. Each goes on to a later word, so that a scan is no longer than the code.
 fn execute(code: &[u8], inputs: u16, given: Record) -> Record
-    requires { check_code code.now ≡ Accepted }
+    requires { check_code code.now ≡ Ok tt }
     ensures { result ≡ record_of (exec inputs 0 (map decode (words code.now)) 0 (mach_of given) false [] 0).mach }
 {
     let mut m = Midway {
         at: 0,
         result: false,
         aside: 0,
-        flags: given.flags,
-        outputs: given.outputs,
-        clock: given.clock,
+        record: given,
     };
     loop {
-        let at = m.at;
-        let op = words::code_byte(code, at);
-        if op == 0 {
-            return record_with(m.flags, m.outputs, m.clock);
+        let op = words::op_at(code, m.at).unwrap();
+        if let Op::End = op {
+            return m.record;
         }
-        let arg = words::operand(code, at);
-        m = step(m, op, arg, inputs);
+        let arg = words::operand(code, m.at);
+        m.step(op, arg, inputs);
     }
 }
 
@@ -220,11 +154,15 @@ pub fn run(code: &[u8], given: Record, inputs: u16, elapsed: u32) -> Ran
     let verdict = faults::check_code(code);
     match verdict {
         Ok(()) => {
-            let forward = clock::bring_forward(given.clock, elapsed);
-            let begun = record_with(given.flags, given.outputs, forward);
-            let after = execute(code, inputs, begun);
-            ran_with(Ok(()), after)
+            let clock = clock::bring_forward(given.clock, elapsed);
+            Answered {
+                verdict,
+                record: execute(code, inputs, Record { clock, ..given }),
+            }
         }
-        Err(why) => ran_with(Err(why), given),
+        Err(_) => Answered {
+            verdict,
+            record: given,
+        },
     }
 }

@@ -27,14 +27,14 @@ use Rattle.promises.specs.Demand3.{Translator, code_in, Demand3}
 use Rattle.promises.specs.Earlier.{writing, Gives}
 
 -- a scan of code that is checked and decoded
-pub run_of : (code : List Word) → check_code (to_bytes code) ≡ (Ok tt) → map decode (words (to_bytes code)) ≡ code
+pub run_of : (code : List Word) → check_code (to_bytes code) ≡ Ok tt → map decode (words (to_bytes code)) ≡ code
     → (r : Record) (word elapsed : ℕ)
     → run_code (to_bytes code) r word elapsed
-    ≡ record { verdict = (Ok tt); «record» = record_of (run_scan code (mach_of r) word elapsed).mach }
+    ≡ record { verdict = Ok tt; «record» = record_of (run_scan code (mach_of r) word elapsed).mach }
 unfolding run_code
 run_of code checked decoded r word elapsed = rw (checked, decoded) refl
 
-module _ (s : List ℕ) (a : Sheet) (end : ℕ) (read : read_sheet s ≡ ok a end) (acc : check_sheet s ≡ (Ok tt)) where
+module _ (s : List ℕ) (a : Sheet) (end : ℕ) (read : read_sheet s ≡ ok a end) (acc : check_sheet s ≡ Ok tt) where
   -- the reference's record from cold, and after one more scan
   pub ref-cold : ref_after s [] ≡ cold_of a
   unfolding ref_after
@@ -61,8 +61,8 @@ module _ (s : List ℕ) (a : Sheet) (end : ℕ) (read : read_sheet s ≡ ok a en
       (room : List ℕ) (fits : 4 * words_of a ≤ length room) where
     -- what demand 3 says of this sheet and a buffer with room for its code
     pub demanded : (b : Sheet)
-        × ((f s room).answer.verdict ≡ (Ok tt))
-        × (check_code (code_in (f s room)) ≡ (Ok tt))
+        × ((f s room).answer.verdict ≡ Ok tt)
+        × (check_code (code_in (f s room)) ≡ Ok tt)
         × ((ticks : List Tick) → Follows run s b (code_in (f s room)) ticks)
     demanded =
         let h = d s acc in

@@ -17,7 +17,7 @@ use Rattle.promises.specs.Length.{words_of}
 use Rattle.promises.specs.Demand3.{code_in}
 use Rattle.promises.proofs.LengthProof.{bytes-are}
 
-module _ (a : Sheet) (rules : Rules a) (s : List ℕ) (end : ℕ) (read : read_sheet s ≡ ok a end) (acc : check_sheet s ≡ (Ok tt)) where
+module _ (a : Sheet) (rules : Rules a) (s : List ℕ) (end : ℕ) (read : read_sheet s ≡ ok a end) (acc : check_sheet s ≡ Ok tt) where
   -- with room the translator accepts, and what it leaves in the buffer is the code
   pub with-room : (buffer : List ℕ) → 4 * words_of a ≤ length buffer → translate_into s buffer ≡ written_with buffer (code_of a)
   with-room buffer h =

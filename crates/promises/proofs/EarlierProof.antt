@@ -123,7 +123,7 @@ unfolding read_sheet read_header row_at upto transition_at ends_at drawn two_row
     cond_bits
 drawn-read = refl
 
-drawn-accepted : check_sheet (sheet_of drawn) ≡ (Ok tt)
+drawn-accepted : check_sheet (sheet_of drawn) ≡ Ok tt
 unfolding check_sheet judge clashes lacks_home any_below first_below drawn two_rows two_arcs is_on is_off is_gated
 drawn-accepted = rw drawn-read refl
 
@@ -133,13 +133,13 @@ drawn-words = refl
 
 -- A version's code passes the check of code, the runner reads it as it was written, and it fits where ours does
 pub record Passes (code : List Word) : Type 0 where
-  pub checked : check_code (to_bytes code) ≡ (Ok tt)
+  pub checked : check_code (to_bytes code) ≡ Ok tt
   pub decoded : map decode (words (to_bytes code)) ≡ code
   pub fits : leb (length code) 271 ≡ true
 
 run_by : (code : List Word) → Passes code → (r : Record) (word elapsed : ℕ)
     → run_code (to_bytes code) r word elapsed
-    ≡ record { verdict = (Ok tt); «record» = record_of (run_scan code (mach_of r) word elapsed).mach }
+    ≡ record { verdict = Ok tt; «record» = record_of (run_scan code (mach_of r) word elapsed).mach }
 run_by code p = run_of code p.checked p.decoded
 
 one_passes : Passes (translate_one two_sheet)
@@ -180,7 +180,7 @@ left_gives = (refl, run_by (translate_left two_sheet) left-passes (flag 1 1 0) 1
 -- and over our code
 our-run : (r : Record) (word elapsed : ℕ)
     → run_code (to_bytes (translate two_sheet)) r word elapsed
-    ≡ record { verdict = (Ok tt); «record» = record_of (run_scan (translate two_sheet) (mach_of r) word elapsed).mach }
+    ≡ record { verdict = Ok tt; «record» = record_of (run_scan (translate two_sheet) (mach_of r) word elapsed).mach }
 unfolding code_of
 our-run = two_run
 
@@ -206,7 +206,7 @@ zeroing_gives = (refl, rw our-run refl)
 -- waits there
 pub record Stage (s : List ℕ) (a : Sheet) : Type 0 where
   pub read : read_sheet s ≡ ok a 1319
-  pub accepted : check_sheet s ≡ (Ok tt)
+  pub accepted : check_sheet s ≡ Ok tt
   pub many : words_of a ≡ 271
   pub nine : a.states ≡ 9
   pub idle : cold_of a ≡ state 0 1 0
@@ -346,12 +346,12 @@ unfolding read_sheet read_header row_at upto transition_at ends_at out_by cond_a
 out-not-read = refl
 
 -- a test that they pass accepts them
-judged-by : (gated : Cond → Bool) (c : Cond) → gated c ≡ true → judge_by gated (out_by c) ≡ (Ok tt)
+judged-by : (gated : Cond → Bool) (c : Cond) → gated c ≡ true → judge_by gated (out_by c) ≡ Ok tt
 unfolding judge_by clashes lacks_home any_below first_below out_by is_on is_off
 judged-by gated c e = rw e refl
 
 passes : (gated : Cond → Bool) (c : Cond) (end : ℕ) → read_sheet (sheet_of (out_by c)) ≡ ok (out_by c) end → gated c ≡ true
-    → check_by gated (sheet_of (out_by c)) ≡ (Ok tt)
+    → check_by gated (sheet_of (out_by c)) ≡ Ok tt
 unfolding check_by
 passes gated c end read e = rw read (judged-by gated c e)
 

@@ -111,7 +111,7 @@ module _ (a : Sheet) (rules : Rules a) (x y : ℕ) (agree : Agree a.inputs x y) 
   scan_of-same q =
       ap (after a q (onward q.clock e)) (best-same a.inputs x y agree a.states q.state (onward q.clock e) a.transitions (all-fields a rules))
 
-  pub scan-ignores : (s : List ℕ) (end : ℕ) → read_sheet s ≡ ok a end → check_sheet s ≡ (Ok tt) → (q : State) → scan_sheet s q x e ≡ scan_sheet s q y e
+  pub scan-ignores : (s : List ℕ) (end : ℕ) → read_sheet s ≡ ok a end → check_sheet s ≡ Ok tt → (q : State) → scan_sheet s q x e ≡ scan_sheet s q y e
   unfolding scan_sheet
   scan-ignores s end read acc q = with-sheet s a end read acc (refused q) _ ∙ rw (scan_of-same q) (sym (with-sheet s a end read acc (refused q) _))
 

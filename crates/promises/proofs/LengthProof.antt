@@ -37,7 +37,7 @@ module _ (a : Sheet) (rules : Rules a) where
   pub bytes-are : length (code_of a) ≡ 4 * words_of a
   bytes-are = code-bytes a ∙ ap (λ n. 4 * n) words_are
 
-  pub fitted : (s : List ℕ) (end : ℕ) → read_sheet s ≡ ok a end → check_sheet s ≡ (Ok tt) → (buffer : List ℕ)
+  pub fitted : (s : List ℕ) (end : ℕ) → read_sheet s ≡ ok a end → check_sheet s ≡ Ok tt → (buffer : List ℕ)
       → translate_into s buffer ≡ fitting buffer (4 * words_of a) (code_of a)
   fitted s end read acc buffer = translate-is s a end read acc buffer ∙ ap (λ n. fitting buffer n (code_of a)) bytes-are
 

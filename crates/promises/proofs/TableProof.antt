@@ -52,7 +52,7 @@ unfolding read_sheet read_header row_at upto transition_at ends_at two_contact t
     bits_of
 two_read = refl
 
-pub two_accepted : check_sheet two_contact ≡ (Ok tt)
+pub two_accepted : check_sheet two_contact ≡ Ok tt
 unfolding check_sheet judge clashes lacks_home any_below first_below two_sheet two_rows two_arcs is_on is_off is_gated
 two_accepted = rw two_read refl
 
@@ -66,11 +66,11 @@ two_bytes = refl
 
 -- a scan of the reference, the sheet being read
 pub two-scan : (q : State) → q.state < 9 → (word elapsed : ℕ)
-    → scan_sheet two_contact q word elapsed ≡ record { verdict = (Ok tt); «record» = scan_of two_sheet q word elapsed }
+    → scan_sheet two_contact q word elapsed ≡ record { verdict = Ok tt; «record» = scan_of two_sheet q word elapsed }
 unfolding two_sheet
 two-scan q lt word elapsed = scan-is two_contact two_sheet 1319 two_read two_accepted q lt word elapsed
 
-pub two-checked : check_code (code_of two_sheet) ≡ (Ok tt)
+pub two-checked : check_code (code_of two_sheet) ≡ Ok tt
 unfolding check_code end_fault opens faulty unknown first_fault depth_at lands_open first_landing code_no operand word_no known decode bytes_of to_bytes words code_of
     translate cond_code wait_code block key insert sort blocks row_code state_blocks block_len blocks_len word_count state_at end_at two_sheet two_rows two_arcs
 two-checked = refl
@@ -83,7 +83,7 @@ two-decoded = refl
 -- a scan of the code, the code being checked
 pub two_run : (r : Record) (word elapsed : ℕ)
     → run_code (code_of two_sheet) r word elapsed
-    ≡ record { verdict = (Ok tt); «record» = record_of (run_scan (translate two_sheet) (mach_of r) word elapsed).mach }
+    ≡ record { verdict = Ok tt; «record» = record_of (run_scan (translate two_sheet) (mach_of r) word elapsed).mach }
 unfolding code_of
 two_run = run_of (translate two_sheet) two-checked two-decoded
 

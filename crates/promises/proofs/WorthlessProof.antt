@@ -32,7 +32,7 @@ use Rattle.promises.specs.Demand3.{Translator, code_in, Demand3}
 use Rattle.promises.specs.Table.{two_contact, two_rows, two_arcs, two_sheet, brings, flag, state}
 use Rattle.promises.specs.Worthless.{WritesEnd, WritesNothing, HandsBack, RightAtFirst, Worthless}
 use Rattle.translate.proofs.SingleProof.{translates-is}
-use Rattle.same.proofs.AcceptedLaws.{accepted-refused}
+use Rattle.answer.proofs.CheckedLaws.{accepted-refused}
 use Rattle.promises.proofs.Breaking.{demanded}
 use Rattle.promises.proofs.TableProof.{two_read, two_accepted, two-words, two-checked, two-scan, cold-state, cold-flag, table}
 
@@ -52,7 +52,7 @@ M = sheet_m 0x08 0x20 0x80
 abbrev room : List ℕ
 room = replicate 64 0xFF
 
-m-accepted : check_sheet M ≡ (Ok tt)
+m-accepted : check_sheet M ≡ Ok tt
 unfolding check_sheet sheet_m read_sheet read_header row_at upto transition_at ends_at judge clashes lacks_home any_below first_below cond_at operands_at input_at
     field_at num_at bit_at get_bit bits_of is_on is_off is_gated
 m-accepted = refl
@@ -102,9 +102,9 @@ ff-end (suc n) =
     get_or-replicate (suc n) (length (ff (suc n)) - 4) 0xFF 0 (omega (arith, length-replicate {A = ℕ} n 0xFF)) in
     rw last (or-true (eqb (length (ff (suc n))) 0 || ltb 32768 (length (ff (suc n))) || ltb 0 (length (ff (suc n)) % 4)))
 
-ff-refused : (n m : ℕ) → check_code (take n (ff m)) ≡ (Ok tt) → ⊥
+ff-refused : (n m : ℕ) → check_code (take n (ff m)) ≡ Ok tt → ⊥
 unfolding check_code
-ff-refused n m h = accepted-refused {why = CodeEnd} h (rw ((all-ff n m).1, ff-end (all-ff n m).0) refl)
+ff-refused n m h = accepted-refused {r = CodeEnd} h (rw ((all-ff n m).1, ff-end (all-ff n m).0) refl)
 
 -- demand 3 fails with a translator that leaves one of these
 never-moves : (f : Translator) → Demand3 f run_code → WritesEnd f → ⊥
@@ -176,7 +176,7 @@ worthless = record {
   code_refused = λ f is h. accepted-refused (is (code_of two_sheet) ∙ two-checked) (h (code_of two_sheet)).1;
   code_accepted = λ f is h. accepted-refused (h []) (is [] ∙ no_code);
   only_end = λ f is h.
-      let acc : (f M room).answer.verdict ≡ (Ok tt) = ap (λ (w : Written). w.answer.verdict) (translates-is M room (f M room) (is M room) ∙ table.p11) in
+      let acc : (f M room).answer.verdict ≡ Ok tt = ap (λ (w : Written). w.answer.verdict) (translates-is M room (f M room) (is M room) ∙ table.p11) in
       let z : ◌≡◌ {A = ℕ} 4 64 =
       sym (ap length (h M room acc)) ∙ ap (λ w. length (code_in w)) (translates-is M room (f M room) (is M room)) ∙ ap length m-code in
       omega arith;

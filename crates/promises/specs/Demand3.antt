@@ -22,11 +22,11 @@ code_in w = take w.answer.length w.buffer
 -- the code that it leaves passes the check of code, and the two go together for ever
 abbrev pub Demand3 : Translator → Runner → Type 0
 Demand3 translator run =
-    (s : List ℕ) → check_sheet s ≡ (Ok tt)
+    (s : List ℕ) → check_sheet s ≡ Ok tt
     → (a : Sheet) × (end : ℕ) × (read_sheet s ≡ ok a end)
-    × ((cold_scan s).verdict ≡ (Ok tt))
-    × ((cold_run s).verdict ≡ (Ok tt))
+    × ((cold_scan s).verdict ≡ Ok tt)
+    × ((cold_run s).verdict ≡ Ok tt)
     × ((buffer : List ℕ) → 4 * words_of a ≤ length buffer
-    → ((translator s buffer).answer.verdict ≡ (Ok tt))
-    × (check_code (code_in (translator s buffer)) ≡ (Ok tt))
+    → ((translator s buffer).answer.verdict ≡ Ok tt)
+    × (check_code (code_in (translator s buffer)) ≡ Ok tt)
     × ((ticks : List Tick) → Follows run s a (code_in (translator s buffer)) ticks))

@@ -145,7 +145,7 @@ out_by c =
 -- what GATE is for: with activation off, no sheet that the check accepts leaves state 0 in a scan from cold
 abbrev pub OffStays : (List ℕ → Checked) → Type 0
 OffStays check =
-    (s : List ℕ) → check s ≡ (Ok tt) → (a : Sheet) (end : ℕ) → read_sheet s ≡ ok a end
+    (s : List ℕ) → check s ≡ Ok tt → (a : Sheet) (end : ℕ) → read_sheet s ≡ ok a end
     → (word elapsed : ℕ) → get_bit word 0 ≡ false → (scan_of a (cold_of a) word elapsed).state ≡ 0
 
 -- one scan from the record q: by the rules of the sheet it must give p, and with the code that is made of the sheet the
@@ -153,7 +153,7 @@ OffStays check =
 abbrev pub Gives : Sheet → (Sheet → List Word) → Runner → State → Tick → State → Record → Type 0
 Gives a make run q t p u =
     (scan_of a q t.word t.elapsed ≡ p)
-    × (run (to_bytes (make a)) (embed q) t.word t.elapsed ≡ record { verdict = (Ok tt); «record» = u })
+    × (run (to_bytes (make a)) (embed q) t.word t.elapsed ≡ record { verdict = Ok tt; «record» = u })
 
 pub record Earlier : Type 0 where
   -- with the paper's block, order and test it is ours: a mistake below differs in the one thing that it names
@@ -168,7 +168,7 @@ pub record Earlier : Type 0 where
   pub two : Demand3 (writing translate_two) run_code → ⊥
   -- P13, "from state 3 with clock 99, 111/1 gives 5": a contact's change beats the time that has run out, and version
   -- two ends in 8
-  pub two_drawn : check_sheet (sheet_of drawn) ≡ (Ok tt)
+  pub two_drawn : check_sheet (sheet_of drawn) ≡ Ok tt
   pub two_gives : Gives drawn translate_two run_code (state 3 2 99) (brings 1 1 1 1) (state 5 10 0) (flag 256 6 0)
   -- Version three. "Adding the elapsed time after the comparison: a wait of 100 then fires a scan late."
   pub three : Demand3 translate_into run_three → ⊥
@@ -191,6 +191,6 @@ pub record Earlier : Type 0 where
   pub gate_untested : OffStays (check_by untested) → ⊥
   -- input 1 is off at input word 0, and at input word 2 it leads out of state 0, activation being off; by its form it
   -- is refused: 12, at transition 1
-  pub gate_accepts : check_by (tried 0) (sheet_of (out_by (inp 1))) ≡ (Ok tt)
+  pub gate_accepts : check_by (tried 0) (sheet_of (out_by (inp 1))) ≡ Ok tt
   pub gate_leaves : scan_of (out_by (inp 1)) (state 0 1 0) 2 10 ≡ state 1 0 0
   pub gate_refuses : Numbered (check_sheet (sheet_of (out_by (inp 1)))) 12 1

@@ -8,7 +8,7 @@ use Rattle.sheet.specs.Judging.{check_sheet}
 -- no wait of an accepted sheet is larger, and it is reached by the time held exactly if it is reached by the time
 abbrev pub HoldChangesNone : Type 0
 HoldChangesNone =
-    (s : List ℕ) → check_sheet s ≡ (Ok tt)
+    (s : List ℕ) → check_sheet s ≡ Ok tt
     → (a : Sheet) × (end : ℕ) × (read_sheet s ≡ ok a end)
     × ((i : ℕ) → i < count a
     → ((transition_of a i).wait ≤ 16777215)

@@ -17,7 +17,7 @@ Agree k word other = (i : ℕ) → i < k → get_bit word i ≡ get_bit other i
 
 abbrev pub InputsIgnored : Type 0
 InputsIgnored =
-    (s : List ℕ) → check_sheet s ≡ (Ok tt)
+    (s : List ℕ) → check_sheet s ≡ Ok tt
     → (a : Sheet) × (end : ℕ) × (read_sheet s ≡ ok a end)
     × ((word other : ℕ) → Agree a.inputs word other → (elapsed : ℕ)
     → ((q : State) → scan_sheet s q word elapsed ≡ scan_sheet s q other elapsed)

@@ -22,12 +22,12 @@ most_words = 6507
 -- what the translator answers with and without room: "14 ROOM: the code needs more bytes than the buffer has", "bytes needed"
 abbrev pub fitting : List ℕ → ℕ → List ℕ → Written
 fitting buffer bytes code =
-    cond (leb bytes (length buffer)) (record { answer = record { verdict = (Ok tt); length = bytes }; buffer = sets buffer 0 code })
+    cond (leb bytes (length buffer)) (record { answer = record { verdict = Ok tt; length = bytes }; buffer = sets buffer 0 code })
     (record { answer = record { verdict = Err (Room bytes); length = 0 }; buffer = buffer })
 
 abbrev pub LengthRule : Type 0
 LengthRule =
-    (s : List ℕ) → check_sheet s ≡ (Ok tt)
+    (s : List ℕ) → check_sheet s ≡ Ok tt
     → (a : Sheet) × (end : ℕ) × (read_sheet s ≡ ok a end)
     × (length (code_of a) ≡ 4 * words_of a)
     × (words_of a ≤ most_words)

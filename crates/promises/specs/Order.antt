@@ -17,7 +17,7 @@ behind a = JMP (end_at a) ∷ state_blocks (end_at a) a.rows ++ (END ∷ [])
 -- exactly these
 abbrev pub BlocksInOrder : Type 0
 BlocksInOrder =
-    (s : List ℕ) → check_sheet s ≡ (Ok tt)
+    (s : List ℕ) → check_sheet s ≡ Ok tt
     → (a : Sheet) × (end : ℕ) × (read_sheet s ≡ ok a end)
     × BlockOrder a (sort a.transitions)
     × (translate a ≡ blocks (state_at a) (sort a.transitions) ++ behind a)

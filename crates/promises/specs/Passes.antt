@@ -11,9 +11,9 @@ use Rattle.same.specs.Same.{Same}
 -- no translation is refused by the runner
 abbrev pub TranslationPasses : Type 0
 TranslationPasses =
-    (s : List ℕ) → check_sheet s ≡ (Ok tt)
-    → (a : Sheet) × (end : ℕ) × (read_sheet s ≡ ok a end) × (check_code (code_of a) ≡ (Ok tt))
+    (s : List ℕ) → check_sheet s ≡ Ok tt
+    → (a : Sheet) × (end : ℕ) × (read_sheet s ≡ ok a end) × (check_code (code_of a) ≡ Ok tt)
 
 -- from any record that fits the sheet: the record that the sheet's scan gives, and the number of words executed
 abbrev pub OneScan : Type 0
-OneScan = (s : List ℕ) → check_sheet s ≡ (Ok tt) → (a : Sheet) × (end : ℕ) × (read_sheet s ≡ ok a end) × Same a
+OneScan = (s : List ℕ) → check_sheet s ≡ Ok tt → (a : Sheet) × (end : ℕ) × (read_sheet s ≡ ok a end) × Same a

@@ -117,8 +117,8 @@ flag word outputs clock = record_with word outputs clock
 -- one scan gives this, accepted
 abbrev pub Gives : State → Record → Tick → State → Record → Type 0
 Gives q r t p u =
-    (scan_sheet two_contact q t.word t.elapsed ≡ record { verdict = (Ok tt); «record» = p })
-    × (run_code (code_of two_sheet) r t.word t.elapsed ≡ record { verdict = (Ok tt); «record» = u })
+    (scan_sheet two_contact q t.word t.elapsed ≡ record { verdict = Ok tt; «record» = p })
+    × (run_code (code_of two_sheet) r t.word t.elapsed ≡ record { verdict = Ok tt; «record» = u })
 
 pub record Table : Type 0 where
   -- P1 to P10 are its rows `p1` to `p10`: "P1: no bytes: 1 at 0. P2: 00: 2 at 0. P3: M is accepted. P4: M with last byte 81: 6 at 71. P5: M and a
@@ -129,12 +129,12 @@ pub record Table : Type 0 where
   pub p3_bits : (a : Sheet) × (read_sheet (sheet_m 0x08 0x20 0x80) ≡ ok a 71)
   -- "P11: M gives 16 words: .. With 63 bytes of room: 14, place 64."
   pub p11 : translate_into (sheet_m 0x08 0x20 0x80) (replicate 64 0xFF)
-      ≡ record { answer = record { verdict = (Ok tt); length = 64 }; buffer = bytes code11 }
+      ≡ record { answer = record { verdict = Ok tt; length = 64 }; buffer = bytes code11 }
   pub p11_room : Numbered (translate_into (sheet_m 0x08 0x20 0x80) (replicate 63 0xFF)).answer.verdict 14 64
   pub p11_untouched : (translate_into (sheet_m 0x08 0x20 0x80) (replicate 63 0xFF)).buffer ≡ replicate 63 0xFF
   -- the two-contact sheet: "25 transitions, 1,319 bits, 165 bytes and 271 words of code"
   pub two_read : read_sheet two_contact ≡ ok two_sheet 1319
-  pub two_accepted : check_sheet two_contact ≡ (Ok tt)
+  pub two_accepted : check_sheet two_contact ≡ Ok tt
   pub two_sizes : (count two_sheet ≡ 25) × (length two_contact ≡ 165) × (length (translate two_sheet) ≡ 271)
   -- "P12: two-contact sheet from cold, scans as Activate A B/ms: 100/10 gives state 1; 110/10 state 3; 110/99 state 3, clock 99; 110/1 state 5,
   -- clock 0; 111/10 state 5, clock 10; 100/10 state 1; 111/10 state 8; 011/5 state 0."

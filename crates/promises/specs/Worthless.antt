@@ -32,11 +32,11 @@ abbrev pub RefusesAll : (List ℕ → Checked) → Type 0
 RefusesAll f = (s : List ℕ) → (why : Refusal) × (f s ≡ Err why)
 
 abbrev pub AcceptsAll : (List ℕ → Checked) → Type 0
-AcceptsAll f = (s : List ℕ) → f s ≡ (Ok tt)
+AcceptsAll f = (s : List ℕ) → f s ≡ Ok tt
 
 -- translators that leave END alone wherever they accept, or no byte at all, whatever they answer
 abbrev pub WritesEnd : Translator → Type 0
-WritesEnd f = (s buffer : List ℕ) → (f s buffer).answer.verdict ≡ (Ok tt) → code_in (f s buffer) ≡ to_bytes (END ∷ [])
+WritesEnd f = (s buffer : List ℕ) → (f s buffer).answer.verdict ≡ Ok tt → code_in (f s buffer) ≡ to_bytes (END ∷ [])
 
 abbrev pub WritesNothing : Translator → Type 0
 WritesNothing f = (s buffer : List ℕ) → (f s buffer).buffer ≡ buffer
@@ -73,6 +73,6 @@ NoInventedRoom =
 -- and every wrong runner: whatever meets demand 3 with the translator has, on any accepted sheet and after any scans, the record that `run_code` has
 abbrev pub OneRunner : Type 0
 OneRunner =
-    (f : Runner) → Demand3 translate_into f → (s : List ℕ) → check_sheet s ≡ (Ok tt)
+    (f : Runner) → Demand3 translate_into f → (s : List ℕ) → check_sheet s ≡ Ok tt
     → (a : Sheet) × (end : ℕ) × (read_sheet s ≡ ok a end)
     × ((ticks : List Tick) → run_after f s (code_of a) ticks ≡ run_after run_code s (code_of a) ticks)

@@ -26,11 +26,11 @@ use Rattle.faults.specs.Check.{check_code}
 use Rattle.machine.specs.Run.{record_with, ran_by, run_code}
 use Rattle.translate.specs.Writing.{Written, code_of, unwritten, written_with, translate_into, cold_record, no_record, cold_run, Cold}
 use Rattle.refusals.specs.Left.{Left}
-use Rattle.same.proofs.AcceptedLaws.{accepted-refused, refused-is}
+use Rattle.answer.proofs.CheckedLaws.{accepted-refused, refused-is}
 
 -- A call goes on with an accepted sheet, or refuses with the check's refusal.
 data Called {B : Type 0} (s : List ℕ) (refuse : Refusal → B) (go : Sheet → B) (b : B) : Type 0 where
-  went : (a : Sheet) (end : ℕ) → read_sheet s ≡ ok a end → check_sheet s ≡ (Ok tt) → b ≡ go a → Called s refuse go b
+  went : (a : Sheet) (end : ℕ) → read_sheet s ≡ ok a end → check_sheet s ≡ Ok tt → b ≡ go a → Called s refuse go b
   not_gone : (why : Refusal) → check_sheet s ≡ Err why → b ≡ refuse why → Called s refuse go b
 
 called : {B : Type 0} (s : List ℕ) (refuse : Refusal → B) (go : Sheet → B) → Called s refuse go (with_sheet s refuse go)
@@ -57,7 +57,7 @@ module _ {B : Type 0} (verdict : B → Checked) (s : List ℕ) (refuse : Refusal
       by (not_gone q d e) = ap verdict e ∙ refuses q ∙ sym d ∙ c
 
   -- if it refuses no accepted sheet, it answers as the check does
-  same-verdict : ((a : Sheet) → verdict (go a) ≡ (Ok tt)) → verdict (with_sheet s refuse go) ≡ check_sheet s
+  same-verdict : ((a : Sheet) → verdict (go a) ≡ Ok tt) → verdict (with_sheet s refuse go) ≡ check_sheet s
   same-verdict goes = by (called s refuse go)
     where
       by : Called s refuse go (with_sheet s refuse go) → verdict (with_sheet s refuse go) ≡ check_sheet s
@@ -106,12 +106,12 @@ room-left buffer a why = go (leb (length (code_of a)) (length buffer))
     go true e = absurd (accepted-refused refl e)
     go false e = let same : Room (length (code_of a)) ≡ why = refused-is e in (ap (unwritten buffer) same, sym same)
 
-room-written : (buffer : List ℕ) (a : Sheet) → (wrote buffer a).answer.verdict ≡ (Ok tt)
+room-written : (buffer : List ℕ) (a : Sheet) → (wrote buffer a).answer.verdict ≡ Ok tt
     → ((wrote buffer a).buffer ≡ code_of a ++ drop (length (code_of a)) buffer) × ((wrote buffer a).answer.length ≡ length (code_of a))
 room-written buffer a = go (leb (length (code_of a)) (length buffer)) refl
   where
     go : (b : Bool) → leb (length (code_of a)) (length buffer) ≡ b
-        → (cond b (written_with buffer (code_of a)) (unwritten buffer (Room (length (code_of a))))).answer.verdict ≡ (Ok tt)
+        → (cond b (written_with buffer (code_of a)) (unwritten buffer (Room (length (code_of a))))).answer.verdict ≡ Ok tt
         → ((cond b (written_with buffer (code_of a)) (unwritten buffer (Room (length (code_of a))))).buffer ≡ code_of a ++ drop (length (code_of a)) buffer)
         × ((cond b (written_with buffer (code_of a)) (unwritten buffer (Room (length (code_of a))))).answer.length ≡ length (code_of a))
     go true f e =
@@ -130,7 +130,7 @@ run-back (Ok tt) code r word elapsed why e = absurd (accepted-refused refl e)
 run-back (Err q) code r word elapsed why e = refl
 
 -- an accepted translation
-written_is : (s buffer : List ℕ) → (translate_into s buffer).answer.verdict ≡ (Ok tt)
+written_is : (s buffer : List ℕ) → (translate_into s buffer).answer.verdict ≡ Ok tt
     → (a : Sheet) × (end : ℕ) × (read_sheet s ≡ ok a end)
     × ((translate_into s buffer).buffer ≡ code_of a ++ drop (length (code_of a)) buffer)
     × ((translate_into s buffer).answer.length ≡ length (code_of a))
@@ -157,7 +157,7 @@ abbrev of-written : Written → Checked
 of-written w = w.answer.verdict
 
 abbrev cold-of : Sheet → Cold
-cold-of a = record { verdict = (Ok tt); «record» = cold_record a }
+cold-of a = record { verdict = Ok tt; «record» = cold_record a }
 
 pub left : Left
 unfolding scan_sheet cold_scan translate_into cold_run run_code

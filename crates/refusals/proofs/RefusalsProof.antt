@@ -21,7 +21,8 @@ use Rattle.scan.specs.Scan.{accepted, refused, scan_of, scan_sheet, Scanned}
 use Rattle.translate.specs.Writing.{Written, code_of, unwritten, written_with, translate_into}
 use Rattle.refusals.specs.Refusals as says
 use Rattle.refusals.specs.Refusals.{Lowest, SheetFault, Unread, Refusals}
-use Rattle.same.proofs.AcceptedLaws.{accepted-refused, refused-is, with-sheet, translate-is}
+use Rattle.answer.proofs.CheckedLaws.{accepted-refused, refused-is}
+use Rattle.same.proofs.AcceptedLaws.{with-sheet, translate-is}
 use Rattle.refusals.proofs.NumberLaws.{refusal_of, answer-is}
 use Rattle.refusals.proofs.JudgeProof.{to-13, judge-lowest}
 use Rattle.refusals.proofs.CodeFaultProof.{code-lowest}
@@ -48,19 +49,19 @@ judge-number a why e h = go (judge a) e (judge-lowest a)
 -- where a public function refuses with a number above 13, the sheet is accepted and what is done with it refuses
 high : {B : Type 0} (verdict : B → Checked) (s : List ℕ) (refuse : Refusal → B) (go : Sheet → B) (why : Refusal)
     → ((r : Refusal) → verdict (refuse r) ≡ Err r) → 14 ≤ number why → verdict (with_sheet s refuse go) ≡ Err why
-    → (a : Sheet) × (end : ℕ) × (read_sheet s ≡ ok a end) × (check_sheet s ≡ (Ok tt)) × (verdict (go a) ≡ Err why)
+    → (a : Sheet) × (end : ℕ) × (read_sheet s ≡ ok a end) × (check_sheet s ≡ Ok tt) × (verdict (go a) ≡ Err why)
 unfolding with_sheet check_sheet
 high verdict s refuse go why refuses h e = by (read_sheet s) refl e
   where
     judged : (a : Sheet) (end : ℕ) (c : Checked) → judge a ≡ c → read_sheet s ≡ ok a end → verdict (judged_or c refuse (go a)) ≡ Err why
-        → (a : Sheet) × (end : ℕ) × (read_sheet s ≡ ok a end) × (judge_read (read_sheet s) ≡ (Ok tt)) × (verdict (go a) ≡ Err why)
+        → (a : Sheet) × (end : ℕ) × (read_sheet s ≡ ok a end) × (judge_read (read_sheet s) ≡ Ok tt) × (verdict (go a) ≡ Err why)
     judged a end (Ok tt) j r e = (a, end, r, rw r j, e)
     judged a end (Err q) j r e =
         let same : q ≡ why = refused-is (sym (refuses q) ∙ e) in
         absurd (judge-number a why (j ∙ ap Err same) h)
 
     by : (x : Ans Sheet) → read_sheet s ≡ x → verdict (read_or x refuse go) ≡ Err why
-        → (a : Sheet) × (end : ℕ) × (read_sheet s ≡ ok a end) × (judge_read (read_sheet s) ≡ (Ok tt)) × (verdict (go a) ≡ Err why)
+        → (a : Sheet) × (end : ℕ) × (read_sheet s ≡ ok a end) × (judge_read (read_sheet s) ≡ Ok tt) × (verdict (go a) ≡ Err why)
     by (ok a end) r e = judged a end (judge a) refl r e
     by (no q) r e =
         let same : q ≡ why = refused-is (sym (refuses q) ∙ e) in

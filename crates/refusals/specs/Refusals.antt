@@ -95,8 +95,8 @@ pub record Refusals : Type 0 where
   -- 14 is given exactly where the sheet is accepted and its code needs more bytes than the buffer has: "bytes needed"
   pub room : (s buffer : List ℕ) (bytes : ℕ)
       → Numbered (translate_into s buffer).answer.verdict 14 bytes
-      ↔ ((a : Sheet) × (end : ℕ) × (read_sheet s ≡ ok a end) × (check_sheet s ≡ (Ok tt)) × (length buffer < bytes) × (bytes ≡ length (code_of a)))
+      ↔ ((a : Sheet) × (end : ℕ) × (read_sheet s ≡ ok a end) × (check_sheet s ≡ Ok tt) × (length buffer < bytes) × (bytes ≡ length (code_of a)))
   -- 18 is given exactly where the sheet is accepted and the state is n or above: "the state"
   pub no_state : (s : List ℕ) (q : State) (word elapsed state : ℕ)
       → Numbered (scan_sheet s q word elapsed).verdict 18 state
-      ↔ ((a : Sheet) × (end : ℕ) × (read_sheet s ≡ ok a end) × (check_sheet s ≡ (Ok tt)) × (a.states ≤ state) × (state ≡ q.state))
+      ↔ ((a : Sheet) × (end : ℕ) × (read_sheet s ≡ ok a end) × (check_sheet s ≡ Ok tt) × (a.states ≤ state) × (state ≡ q.state))

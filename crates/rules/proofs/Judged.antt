@@ -139,7 +139,7 @@ actively false true e = true-false (sym e)
 actively false false e = refl
 
 module _ (a : Sheet) (f : WellFormed a) where
-  rules : judge a ≡ (Ok tt) → Rules a
+  rules : judge a ≡ Ok tt → Rules a
   unfolding judge
   rules e =
       let x7 = refuse-none refuse.Loop _ _ e in
@@ -168,7 +168,7 @@ module _ (a : Sheet) (f : WellFormed a) where
         active_else = λ s low high. active-at s high ∙ ne_eqb s 0 (λ z. omega arith);
       }
 
-  accepts : Rules a → judge a ≡ (Ok tt)
+  accepts : Rules a → judge a ≡ Ok tt
   unfolding judge
   accepts r =
       none-refuse refuse.Loop _ _ (none_first _ _ (λ i l. ne_eqb _ _ (r.no_loop i l)))
@@ -183,5 +183,5 @@ module _ (a : Sheet) (f : WellFormed a) where
       activity zero l = actively _ _ r.active_idle
       activity (suc s) l = actively _ _ (r.active_else (suc s) (omega arith) l ∙ sym (ne_eqb (suc s) 0 (λ z. omega arith)))
 
-  pub judged : (judge a ≡ (Ok tt)) ↔ Rules a
+  pub judged : (judge a ≡ Ok tt) ↔ Rules a
   judged = (rules, accepts)

@@ -53,9 +53,9 @@ module _ (p : ℕ → Bool) where
       go false ih e = (n, omega arith, e)
 
 -- nothing was found, and the later answer accepts
-pub refuse-none : (why : ℕ → Refusal) (f : Option ℕ) (later : Checked) → refuse_at why f later ≡ (Ok tt) → (f ≡ None) × (later ≡ (Ok tt))
+pub refuse-none : (why : ℕ → Refusal) (f : Option ℕ) (later : Checked) → refuse_at why f later ≡ Ok tt → (f ≡ None) × (later ≡ Ok tt)
 refuse-none why (Some i) later e = true-false cc
 refuse-none why None later e = (refl, e)
 
-pub none-refuse : (why : ℕ → Refusal) (f : Option ℕ) (later : Checked) → f ≡ None → later ≡ (Ok tt) → refuse_at why f later ≡ (Ok tt)
+pub none-refuse : (why : ℕ → Refusal) (f : Option ℕ) (later : Checked) → f ≡ None → later ≡ Ok tt → refuse_at why f later ≡ Ok tt
 none-refuse why f later e h = rw e h

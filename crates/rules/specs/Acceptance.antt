@@ -7,10 +7,10 @@ use Rattle.format.specs.Writing.{Bytes, sheet_of}
 
 pub record Acceptance : Type 0 where
   -- a byte string is accepted exactly when it is the bytes of a sheet that keeps the rules
-  pub exactly : (s : List ℕ) → ((check_sheet s ≡ (Ok tt)) × Bytes s) ↔ ((a : Sheet) × Rules a × (sheet_of a ≡ s))
+  pub exactly : (s : List ℕ) → ((check_sheet s ≡ Ok tt) × Bytes s) ↔ ((a : Sheet) × Rules a × (sheet_of a ≡ s))
   -- and it is the bytes of one such sheet only
   pub one_sheet : (a b : Sheet) → Rules a → Rules b → sheet_of a ≡ sheet_of b → a ≡ b
   -- "No accepted sheet is longer than 2,537 bytes."
-  pub no_longer : (s : List ℕ) → check_sheet s ≡ (Ok tt) → length s ≤ 2537
+  pub no_longer : (s : List ℕ) → check_sheet s ≡ Ok tt → length s ≤ 2537
   -- a longer byte string is answered as its first 4,096 bytes are
   pub first_bytes : (s : List ℕ) → check_sheet (take 4096 s) ≡ check_sheet s

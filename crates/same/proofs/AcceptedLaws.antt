@@ -20,15 +20,8 @@ use Rattle.scan.specs.declared.State.{State}
 use Rattle.scan.specs.Scan.{accepted, refused, scan_of, cold_of, scan_sheet, cold_scan, zeros}
 use Rattle.translate.specs.Writing.{code_of, unwritten, written_with, translate_into, cold_record, no_record, cold_run}
 
--- no answer is both
-pub accepted-refused : {c : Checked} {why : Refusal} → c ≡ (Ok tt) → c ≡ Err why → ⊥
-accepted-refused e f = let z : ◌≡◌ {A = ℕ} 0 1 = cc in omega arith
-
-pub refused-is : {c d : Refusal} → Err c ≡ Err d → c ≡ d
-refused-is e = cc
-
-module _ (s : List ℕ) (a : Sheet) (end : ℕ) (read : read_sheet s ≡ ok a end) (acc : check_sheet s ≡ (Ok tt)) where
-  judged : judge a ≡ (Ok tt)
+module _ (s : List ℕ) (a : Sheet) (end : ℕ) (read : read_sheet s ≡ ok a end) (acc : check_sheet s ≡ Ok tt) where
+  judged : judge a ≡ Ok tt
   unfolding check_sheet
   judged = rw read at acc
 
@@ -45,9 +38,9 @@ module _ (s : List ℕ) (a : Sheet) (end : ℕ) (read : read_sheet s ≡ ok a en
   unfolding cold_scan
   cold-scan-is = with-sheet (refused zeros) (λ b. accepted (cold_of b))
 
-  pub cold-run-is : cold_run s ≡ record { verdict = (Ok tt); «record» = cold_record a }
+  pub cold-run-is : cold_run s ≡ record { verdict = Ok tt; «record» = cold_record a }
   unfolding cold_run
-  cold-run-is = with-sheet no_record (λ b. record { verdict = (Ok tt); «record» = cold_record b })
+  cold-run-is = with-sheet no_record (λ b. record { verdict = Ok tt; «record» = cold_record b })
 
   -- the translator, with room and without
   pub translate-is : (buffer : List ℕ)

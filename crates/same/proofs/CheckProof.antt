@@ -204,7 +204,7 @@ module _ (a : Sheet) (rules : Rules a) where
       (JMP (end_at a) ∷ state_blocks (TRES ∷ []) (end_at a) a.rows) (END ∷ []))
 
   -- the translation is accepted
-  pub check-code : check_code (code_of a) ≡ (Ok tt)
+  pub check-code : check_code (code_of a) ≡ Ok tt
   unfolding code_of
   check-code =
       let long : length (translate a) ≡ suc (end_at a) = code_end a rules.rows rules.row in

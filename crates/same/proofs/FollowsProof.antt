@@ -35,7 +35,7 @@ use Rattle.same.proofs.SameProof.{Shows, shows-fits, scan-same, scan-shows}
 
 module _ (a : Sheet) (rules : Rules a) where
   -- a scan of the code's bytes
-  pub run_is : (q : State) → Fits a q → (x e : ℕ) → run_code (code_of a) (embed q) x e ≡ record { verdict = (Ok tt); «record» = embed (scan_of a q x e) }
+  pub run_is : (q : State) → Fits a q → (x e : ℕ) → run_code (code_of a) (embed q) x e ≡ record { verdict = Ok tt; «record» = embed (scan_of a q x e) }
   unfolding code_of
   run_is q g x e =
       runs (translate a) (fit a rules) (check-code a rules) (embed q) x e
@@ -55,7 +55,7 @@ module _ (a : Sheet) (rules : Rules a) where
       let c : p.clock ≡ onward q.clock e = ap (λ v. v.clock) r in
       rw (eq-eqb p.state q.state (ap (λ v. v.state) r)) (omega arith)
 
-  module _ (s : List ℕ) (end : ℕ) (read : read_sheet s ≡ ok a end) (acc : check_sheet s ≡ (Ok tt)) where
+  module _ (s : List ℕ) (end : ℕ) (read : read_sheet s ≡ ok a end) (acc : check_sheet s ≡ Ok tt) where
     -- where the two stand after some scans
     record Stands (ticks : List Tick) : Type 0 where
       good : Shows a rules (ref_after s ticks)

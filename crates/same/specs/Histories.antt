@@ -35,8 +35,8 @@ since_change s (t ∷ before) = cond (eqb (ref_after s (t ∷ before)).state (re
 -- after these scans
 pub record Follows (run : Runner) (s : List ℕ) (a : Sheet) (code : List ℕ) (ticks : List Tick) : Type 0 where
   -- the next scan is accepted, whatever it brings, by the reference and by the runner
-  pub scan_accepted : (t : Tick) → (scan_sheet s (ref_after s ticks) t.word t.elapsed).verdict ≡ (Ok tt)
-  pub run_accepted : (t : Tick) → (run code (run_after run s code ticks) t.word t.elapsed).verdict ≡ (Ok tt)
+  pub scan_accepted : (t : Tick) → (scan_sheet s (ref_after s ticks) t.word t.elapsed).verdict ≡ Ok tt
+  pub run_accepted : (t : Tick) → (run code (run_after run s code ticks) t.word t.elapsed).verdict ≡ Ok tt
   -- the reference is in one of the n states, and the runner has the reference's record, with the state's flag for its number
   pub state : (ref_after s ticks).state < a.states
   pub same : run_after run s code ticks ≡ embed (ref_after s ticks)

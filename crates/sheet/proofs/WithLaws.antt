@@ -1,24 +1,18 @@
 -- Laws of going on with a sheet: by its refusal, or by the sheet that is accepted. Assumes nothing.
 use Rattle.std.specs.Prelude.{Ok, Err}
 use Prim.Native.Nat.{ℕ}
-use mathlib.Core.Path.{◌≡◌, ap}
+use mathlib.Core.Path.{◌≡◌, refl, ap}
 use mathlib.Core.List.{List}
-use native.Mathlib.Omega.{arith}
 use Rattle.answer.specs.declared.Refusal.{Refusal}
 use Rattle.answer.specs.Checked.{Checked}
+use Rattle.answer.proofs.CheckedLaws.{refused-is, accepted-refused}
 use Rattle.bits.specs.Read.{Ans, ok, no}
 use Rattle.reader.specs.Sheet.{Sheet}
 use Rattle.reader.specs.Reading.{read_sheet}
 use Rattle.sheet.specs.Judging.{judge, judge_read, check_sheet, judged_or, read_or, with_sheet}
 
-refused-is : {q r : Refusal} → ◌≡◌ {A = Checked} (Err q) (Err r) → q ≡ r
-refused-is h = cc
-
-pub accepted-refused : {A : Type 0} {r : Refusal} → ◌≡◌ {A = Checked} (Ok tt) (Err r) → A
-accepted-refused h = let z : ◌≡◌ {A = ℕ} 0 1 = cc in absurd (omega arith)
-
 judged-refused : {B : Type 0} (v : Checked) (why : Refusal) (refuse : Refusal → B) (b : B) → v ≡ Err why → judged_or v refuse b ≡ refuse why
-judged-refused (Ok tt) why refuse b e = accepted-refused e
+judged-refused (Ok tt) why refuse b e = accepted-refused refl e
 judged-refused (Err q) why refuse b e = ap refuse (refused-is e)
 
 read-refused : {B : Type 0} (x : Ans Sheet) (why : Refusal) (refuse : Refusal → B) (go : Sheet → B) → judge_read x ≡ Err why

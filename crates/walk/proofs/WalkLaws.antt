@@ -1,6 +1,6 @@
 -- Laws of the walk: what its next bits and what waits say of the items to come. Assumes nothing.
 use mathlib.Core.Path.{◌≡◌, refl, sym, ap, ◌∙◌, subst}
-use mathlib.Core.Bool.{Bool, true, false, not}
+use mathlib.Core.Bool.{true, false}
 use mathlib.Core.List.{List, [], ◌∷◌, ◌++◌, append_assoc, append-nil}
 use Prim.Native.Nat.{ℕ, zero, suc, ◌+◌, ◌*◌, ◌-◌, ◌/◌, ◌%◌, ◌^◌, ◌≤◌, ◌<◌}
 use native.Mathlib.Nat.{pow-succ', add_assoc}
@@ -11,28 +11,11 @@ use Rattle.bits.proofs.FieldLaws.{num-lt, num-join}
 use Rattle.condition.specs.Cond.{Cond, inp, neg, conj, disj, nodes}
 use Rattle.condition.specs.inside.Reach.{cond_end}
 use Rattle.condition.specs.inside.Lies.{size, Lies, Lodges}
-use Rattle.walk.specs.Items.{Item, Turn, OpenAnd, OpenOr, Close, items}
-use Rattle.walk.specs.inside.Walking.{
-  Frame,
-  turning,
-  closing,
-  anding,
-  oring,
-  digit,
-  enc,
-  after,
-  Waits,
-  load,
-  Down,
-  Up,
-  WalksAt,
-  Walks,
-  walk_at,
-  Tells,
-  left,
-}
+use Rattle.walk.specs.Items.{Item, Load, Turn, OpenAnd, OpenOr, Close, items}
+use Rattle.walk.specs.inside.Walking.{Frame, turning, closing, anding, oring, digit, enc, after, Waits, load, Down, Up, Walks, walk_at, Tells, Loads, left}
 use Rattle.walk.specs.declared.Walk.{Walk}
-use Rattle.walk.specs.declared.Step.TheVariants as step
+use Rattle.words.specs.declared.Op.TheVariants as op
+use Rattle.std.specs.Prelude.{Some, None}
 
 size-some : (t : Cond) → 6 ≤ size t
 unfolding size
@@ -151,41 +134,51 @@ down-next {s} {at} {pending} {is} {node} e big d =
     rw e (down-on s at pending is d.tree d.frames d.lies d.waits d.few d.coded d.comes (omega arith))
 
 -- an input
-input-tells : (s : List ℕ) (at pending : ℕ) (is : List Item) (t : Cond) (fs : List Frame) → Lies s at t → Waits s (at + size t) fs → nodes t + load fs ≤ 31
+input-loads : (s : List ℕ) (at pending : ℕ) (is : List Item) (t : Cond) (fs : List Frame) → Lies s at t → Waits s (at + size t) fs → nodes t + load fs ≤ 31
     → pending ≡ enc fs → is ≡ items t ++ after fs → (node : ℕ) → node ≡ num_at s at 6 → node < 16
-    → Tells s is (step.Item 2 node (walk_at (at + 6) pending true))
+    → Loads s is node (walk_at (at + 6) pending true)
 unfolding items size nodes
-input-tells s at pending is (inp i) fs h w few e q node n small =
-    rw q (refl, omega (arith, n, six s at, h.0.1, h.1.1), small, record { frames = fs; waits = w; few = omega (arith, few); coded = e; comes = refl })
-input-tells s at pending is (neg c) fs h w few e q node n small = absurd (omega (arith, n, six s at, h.0.1))
-input-tells s at pending is (conj a b) fs h w few e q node n small = absurd (omega (arith, n, six s at, h.0.1))
-input-tells s at pending is (disj a b) fs h w few e q node n small = absurd (omega (arith, n, six s at, h.0.1))
+input-loads s at pending is (inp i) fs h w few e q node n small =
+    let v : node ≡ i = omega (arith, n, six s at, h.0.1, h.1.1) in
+    (after fs, q ∙ ap (λ (x : ℕ). Load x ∷ after fs) (sym v), small, record { frames = fs; waits = w; few = omega (arith, few); coded = e; comes = refl })
+input-loads s at pending is (neg c) fs h w few e q node n small = absurd (omega (arith, n, six s at, h.0.1))
+input-loads s at pending is (conj a b) fs h w few e q node n small = absurd (omega (arith, n, six s at, h.0.1))
+input-loads s at pending is (disj a b) fs h w few e q node n small = absurd (omega (arith, n, six s at, h.0.1))
 
-pub down-tells : {s : List ℕ} {at pending : ℕ} {is : List Item} {node : ℕ} → node ≡ num_at s at 6 → node < 16 → Down s at pending is
-    → Tells s is (step.Item 2 node (walk_at (at + 6) pending true))
-down-tells {s} {at} {pending} {is} {node} e small d =
-    input-tells s at pending is d.tree d.frames d.lies d.waits d.few d.coded d.comes node e small
+pub down-loads : {s : List ℕ} {at pending : ℕ} {is : List Item} {node : ℕ} → node ≡ num_at s at 6 → node < 16 → Down s at pending is
+    → Loads s is node (walk_at (at + 6) pending true)
+down-loads {s} {at} {pending} {is} {node} e small d =
+    input-loads s at pending is d.tree d.frames d.lies d.waits d.few d.coded d.comes node e small
 
 -- an operand is finished: by what waits
 module _ (s : List ℕ) (at pending : ℕ) (is : List Item) where
-  done_on : (fs : List Frame) → pending ≡ enc fs → is ≡ after fs → pending ≡ 1 → Tells s is step.Done
+  done_on : (fs : List Frame) → pending ≡ enc fs → is ≡ after fs → pending ≡ 1 → Tells s is None
   unfolding enc after
   done_on [] e q one = rw q tt
   done_on (f ∷ fs) e q one = absurd (omega (arith, enc-some fs))
 
-  join-on : (fs : List Frame) → Waits s at fs → load fs ≤ 31 → pending ≡ enc fs → is ≡ after fs → 2 ≤ pending % 4
-      → Tells s is (step.Item (pending % 4 + 2) 0 (walk_at at (pending - pending % 4) false))
+  and_on : (fs : List Frame) → Waits s at fs → load fs ≤ 31 → pending ≡ enc fs → is ≡ after fs → pending % 4 ≡ 2
+      → Tells s is (Some (op.And, 0, walk_at at (pending - 2) false))
   unfolding enc after load
-  join-on [] w few e q big = absurd (omega arith)
-  join-on (turning ∷ fs) w few e q big = absurd (omega arith)
-  join-on (anding b ∷ fs) w few e q big =
-      rw q (omega arith, refl, omega arith, record { tree = b; frames = closing ∷ fs; lies = w.0; waits = w.1; few = omega (arith, few); coded = omega arith; comes = refl })
-  join-on (oring b ∷ fs) w few e q big =
-      rw q (omega arith, refl, omega arith, record { tree = b; frames = closing ∷ fs; lies = w.0; waits = w.1; few = omega (arith, few); coded = omega arith; comes = refl })
-  join-on (closing ∷ fs) w few e q big = absurd (omega arith)
+  and_on [] w few e q two = absurd (omega arith)
+  and_on (turning ∷ fs) w few e q two = absurd (omega arith)
+  and_on (anding b ∷ fs) w few e q two =
+      rw q (refl, refl, omega arith, record { tree = b; frames = closing ∷ fs; lies = w.0; waits = w.1; few = omega (arith, few); coded = omega arith; comes = refl })
+  and_on (oring b ∷ fs) w few e q two = absurd (omega arith)
+  and_on (closing ∷ fs) w few e q two = absurd (omega arith)
+
+  or_on : (fs : List Frame) → Waits s at fs → load fs ≤ 31 → pending ≡ enc fs → is ≡ after fs → pending % 4 ≡ 3
+      → Tells s is (Some (op.Or, 0, walk_at at (pending - 3) false))
+  unfolding enc after load
+  or_on [] w few e q three = absurd (omega arith)
+  or_on (turning ∷ fs) w few e q three = absurd (omega arith)
+  or_on (anding b ∷ fs) w few e q three = absurd (omega arith)
+  or_on (oring b ∷ fs) w few e q three =
+      rw q (refl, refl, omega arith, record { tree = b; frames = closing ∷ fs; lies = w.0; waits = w.1; few = omega (arith, few); coded = omega arith; comes = refl })
+  or_on (closing ∷ fs) w few e q three = absurd (omega arith)
 
   turn_on : (fs : List Frame) → Waits s at fs → load fs ≤ 31 → pending ≡ enc fs → is ≡ after fs → (pending ≡ 1 → ⊥) → pending % 4 ≡ 1
-      → Tells s is (step.Item 3 0 (walk_at at (pending / 4) true))
+      → Tells s is (Some (op.Not, 0, walk_at at (pending / 4) true))
   unfolding enc after load
   turn_on [] w few e q some one = absurd (some e)
   turn_on (turning ∷ fs) w few e q some one =
@@ -195,7 +188,7 @@ module _ (s : List ℕ) (at pending : ℕ) (is : List Item) where
   turn_on (closing ∷ fs) w few e q some one = absurd (omega arith)
 
   close-on : (fs : List Frame) → Waits s at fs → load fs ≤ 31 → pending ≡ enc fs → is ≡ after fs → pending % 4 ≡ 0
-      → Tells s is (step.Item 6 0 (walk_at at (pending / 4) true))
+      → Tells s is (Some (op.Close, 0, walk_at at (pending / 4) true))
   unfolding enc after load
   close-on [] w few e q none = absurd (omega arith)
   close-on (turning ∷ fs) w few e q none = absurd (omega arith)
@@ -208,36 +201,24 @@ module _ (s : List ℕ) (at pending : ℕ) (is : List Item) where
     pub up-some : 1 ≤ pending
     up-some = omega (arith, u.coded, enc-some u.frames)
 
-    pub done-tells : pending ≡ 1 → Tells s is step.Done
+    pub done-tells : pending ≡ 1 → Tells s is None
     done-tells = done_on u.frames u.coded u.comes
 
-    pub join-tells : 2 ≤ pending % 4
-        → Tells s is (step.Item (pending % 4 + 2) 0 (walk_at at (pending - pending % 4) false))
-    join-tells = join-on u.frames u.waits u.few u.coded u.comes
+    pub and-tells : pending % 4 ≡ 2 → Tells s is (Some (op.And, 0, walk_at at (pending - 2) false))
+    and-tells = and_on u.frames u.waits u.few u.coded u.comes
 
-    pub turn-tells : (pending ≡ 1 → ⊥) → pending % 4 ≡ 1
-        → Tells s is (step.Item 3 0 (walk_at at (pending / 4) true))
+    pub or-tells : pending % 4 ≡ 3 → Tells s is (Some (op.Or, 0, walk_at at (pending - 3) false))
+    or-tells = or_on u.frames u.waits u.few u.coded u.comes
+
+    pub turn-tells : (pending ≡ 1 → ⊥) → pending % 4 ≡ 1 → Tells s is (Some (op.Not, 0, walk_at at (pending / 4) true))
     turn-tells = turn_on u.frames u.waits u.few u.coded u.comes
 
-    pub close-tells : pending % 4 ≡ 0
-        → Tells s is (step.Item 6 0 (walk_at at (pending / 4) true))
+    pub close-tells : pending % 4 ≡ 0 → Tells s is (Some (op.Close, 0, walk_at at (pending / 4) true))
     close-tells = close-on u.frames u.waits u.few u.coded u.comes
 
--- which of both it is
-module _ {s : List ℕ} (w : Walk) {is : List Item} where
-  pub as-down : not w.up ≡ true → Walks s w is → Down s w.at w.pending is
-  as-down e h = go w.up e h
-    where
-      go : (b : Bool) → not b ≡ true → WalksAt b s w.at w.pending is → Down s w.at w.pending is
-      go true e h = let z : ◌≡◌ {A = Bool} false true = e in absurd (let y : ◌≡◌ {A = ℕ} 0 1 = cc in omega arith)
-      go false e h = h
-
-  pub as-up : not w.up ≡ false → Walks s w is → Up s w.at w.pending is
-  as-up e h = go w.up e h
-    where
-      go : (b : Bool) → not b ≡ false → WalksAt b s w.at w.pending is → Up s w.at w.pending is
-      go true e h = h
-      go false e h = absurd (let y : ◌≡◌ {A = ℕ} 0 1 = cc in omega arith)
+-- where an operand has just been finished
+pub as-up : {s : List ℕ} (w : Walk) {is : List Item} → w.up ≡ true → Walks s w is → Up s w.at w.pending is
+as-up w e h = rw e at h
 
 -- the walk of a whole condition
 pub fits-walks : (s : List ℕ) (at : ℕ) (t : Cond) → Lodges s at t → Down s at 1 (items t)

@@ -1,2 +1,3 @@
+pub mod OpLaws
 pub mod WordLaws
 pub mod WroteLaws

@@ -1,3 +1,4 @@
 pub mod Word
+pub mod Op
 pub mod Worked
 pub mod inside

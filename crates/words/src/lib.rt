@@ -1,14 +1,68 @@
-// Words and bytes: a word's code byte and operand read from code, and a word written into a buffer.
+// Words and bytes: what a word does and its operand, read from code; and a word written into a buffer.
 #![tactic(auto)]
 
 ghost use Rattle.std.specs.Prelude.{◌≡◌, [], ◌∷◌, ◌+◌, ◌*◌, ◌/◌, ◌%◌, ◌≤◌, ◌<◌, length, get_or};
 ghost use Rattle.words.specs.Word.{Word, word_no, word_at};
+ghost use Rattle.words.specs.Op.{op_no, Decodes};
 ghost use Rattle.words.specs.inside.Wrote.{Wrote};
 
-fn wide(x: u8) -> usize
-    ensures { (result ≡ x) × (result < 256) }
-{
-    x as usize
+// What a word does, in the order of the paper's code bytes.
+#[derive(Clone, Copy, Debug, PartialEq, Eq)]
+pub enum Op {
+    End,
+    Lds,
+    Ldi,
+    Not,
+    And,
+    Or,
+    Close,
+    Andt,
+    R,
+    S,
+    Ra,
+    Sa,
+    Jmpc,
+    Jmp,
+    Tres,
+}
+
+// A code byte that is none of theirs.
+#[derive(Clone, Copy, Debug, PartialEq, Eq)]
+pub struct UnknownCode(pub u8);
+
+impl From<Op> for u8 {
+    ghost from_gives = { λ op byte. byte ≡ op_no op };
+
+    fn from(op: Op) -> u8 {
+        op as u8
+    }
+}
+
+impl TryFrom<u8> for Op {
+    type Error = UnknownCode;
+
+    ghost try_from_gives = { Decodes };
+
+    fn try_from(byte: u8) -> Result<Op, UnknownCode> {
+        match byte {
+            0 => Ok(Op::End),
+            1 => Ok(Op::Lds),
+            2 => Ok(Op::Ldi),
+            3 => Ok(Op::Not),
+            4 => Ok(Op::And),
+            5 => Ok(Op::Or),
+            6 => Ok(Op::Close),
+            7 => Ok(Op::Andt),
+            8 => Ok(Op::R),
+            9 => Ok(Op::S),
+            10 => Ok(Op::Ra),
+            11 => Ok(Op::Sa),
+            12 => Ok(Op::Jmpc),
+            13 => Ok(Op::Jmp),
+            14 => Ok(Op::Tres),
+            _ => Err(UnknownCode(byte)),
+        }
+    }
 }
 
 // The code byte of word `at`.
@@ -19,21 +73,30 @@ pub fn code_byte(code: &[u8], at: usize) -> u8
     code[at * 4]
 }
 
+// What word `at` does.
+pub fn op_at(code: &[u8], at: usize) -> Result<Op, UnknownCode>
+    requires { at * 4 + 4 ≤ length code.now }
+    ensures of_word { Decodes (word_at code.now at / 16777216) result }
+    ensures of_byte { Decodes (get_or code.now (at * 4) 0) result }
+{
+    Op::try_from(code_byte(code, at))
+}
+
 // The operand of word `at`.
 pub fn operand(code: &[u8], at: usize) -> usize
     requires { at * 4 + 4 ≤ length code.now }
     ensures { (result ≡ word_at code.now at % 16777216) × (result < 16777216) }
 {
     let b = at * 4;
-    (wide(code[b + 1]) * 256 + wide(code[b + 2])) * 256 + wide(code[b + 3])
+    (code[b + 1] as usize * 256 + code[b + 2] as usize) * 256 + code[b + 3] as usize
 }
 
 // A word's four bytes, most significant first; the byte after them.
-pub fn put_word(code: &mut [u8], at: usize, op: u8, operand: u32) -> usize
+pub fn put_word(code: &mut [u8], at: usize, op: Op, operand: u32) -> usize
     requires { (at + 4 ≤ length code.old) × (operand < 16777216) }
-    ensures { (w : Word) → word_no w ≡ op * 16777216 + operand → Wrote code.old at (w ∷ []) code.new result }
+    ensures { (w : Word) → word_no w ≡ op_no op * 16777216 + operand → Wrote code.old at (w ∷ []) code.new result }
 {
-    code[at] = op;
+    code[at] = u8::from(op);
     code[at + 1] = (operand / 65536) as u8;
     code[at + 2] = (operand / 256 % 256) as u8;
     code[at + 3] = (operand % 256) as u8;

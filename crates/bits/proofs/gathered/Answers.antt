@@ -41,7 +41,7 @@ returns-then-width-le9 c =
     let a = c.args in
     let s = a.s.now in
     let tail = num-tail s a.at a.width a.stop 1 _ (omega arith) refl (omega arith) (omega arith) (begins a.at a.width a.stop 1 (omega arith) (omega arith) (omega arith) (omega arith)) (omega (arith, c.type_inv.s (a.at / 8))) in
-    rw (one_byte s a.stop (omega arith) (omega (arith, c.type_inv.s (a.stop - 1)))) at tail
+    rw (c.from-first.ensures, c.from-last.ensures) (rw (one_byte s a.stop (omega arith) (omega (arith, c.type_inv.s (a.stop - 1)))) at tail)
 
 pub returns-then-width-le17 : goal.returns-then-width-le17
 returns-then-width-le17 c =
@@ -50,7 +50,7 @@ returns-then-width-le17 c =
     let tail = num-tail s a.at a.width a.stop 2 _ (omega arith) refl (omega arith) (omega arith) (begins a.at a.width a.stop 2 (omega arith) (omega arith) (omega arith) (omega arith)) (omega (arith, c.type_inv.s (a.at / 8))) in
     let two = two_bytes s a.stop (omega arith) (omega (arith, c.type_inv.s (a.stop - 1))) (omega (arith, c.type_inv.s (a.stop - 2))) in
     let sum : get_or s (a.at / 8) 0 * 2 ^ (2 * 8) + num_at s ((a.stop - 2) * 8) (2 * 8) ≡ (get_or s (a.at / 8) 0 * 256 + get_or s (a.stop - 2) 0) * 256 + get_or s (a.stop - 1) 0 = omega (arith, two) in
-    rw sum at tail
+    rw (c.from-first.ensures, c.from-second.ensures, c.from-last.ensures) (rw sum at tail)
 
 pub returns : goal.returns
 returns c =
@@ -59,4 +59,4 @@ returns c =
     let tail = num-tail s a.at a.width a.stop 3 _ (omega arith) refl (omega arith) (omega arith) (begins a.at a.width a.stop 3 (omega arith) (omega arith) (omega arith) (omega arith)) (omega (arith, c.type_inv.s (a.at / 8))) in
     let three = three-bytes s a.stop (omega arith) (omega (arith, c.type_inv.s (a.stop - 1))) (omega (arith, c.type_inv.s (a.stop - 2))) (omega (arith, c.type_inv.s (a.stop - 3))) in
     let sum : get_or s (a.at / 8) 0 * 2 ^ (3 * 8) + num_at s ((a.stop - 3) * 8) (3 * 8) ≡ ((get_or s (a.at / 8) 0 * 256 + get_or s (a.stop - 3) 0) * 256 + get_or s (a.stop - 2) 0) * 256 + get_or s (a.stop - 1) 0 = omega (arith, three) in
-    rw sum at tail
+    rw (c.from-first.ensures, c.from-third.ensures, c.from-second.ensures, c.from-last.ensures) (rw sum at tail)

@@ -1,5 +1,5 @@
 -- What the code answers of what is read: not needed to read the promises.
-use Rattle.std.specs.Prelude.{◌≡◌, ℕ, Ok, Err}
+use Rattle.std.specs.Prelude.{◌≡◌, Ok, Err}
 use Rattle.std.specs.declared.result.Result.{Result}
 use Rattle.answer.specs.declared.Refusal.{Refusal}
 use Rattle.bits.specs.Read.{Ans, ok, no}

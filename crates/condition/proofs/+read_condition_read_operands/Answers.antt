@@ -6,8 +6,9 @@ use Rattle.bits.proofs.FieldLaws.{field-got}
 use Rattle.condition.specs.Reading.{cond_at}
 use Rattle.condition.specs.declared.Facts.{Facts}
 use Rattle.condition.specs.inside.Facts.{tag_of}
-use Rattle.condition.proofs.Laws.{cond_short, cond-deep, cond-node, same_not, same_and, facts-told, ops-bad, ops-one, ops-two-bad, ops-two}
+use Rattle.condition.proofs.Laws.{cond_short, cond-deep, cond-node, tag-known, same_not, same_and, facts-told, ops-bad, ops-one, ops-two-bad, ops-two}
 use Rattle.condition.proofs.+read_condition_read_operands.Goals as goal
+use Rattle.condition.proofs.+read_condition_read_operands.Goals.{read_condition-in-1, read_condition-in-2, read_condition-in_default-tag}
 use Rattle.std.specs.Prelude.{Ok}
 use Rattle.std.proofs.lemmas.Result.{err_from_is_err_and}
 
@@ -38,44 +39,24 @@ read_condition-read_operands-requires t c =
     let h = field-got a.s.now a.c.at 2 _ _ (sym c.in-Some.ensures) in
     omega arith
 
-pub read_condition-read_operands-requires-in-2 : goal.read_condition-read_operands-requires-in-2
-read_condition-read_operands-requires-in-2 t c =
-    let a = c.args in
-    let h = field-got a.s.now a.c.at 2 _ _ (sym c.in-Some.ensures) in
-    omega arith
-
-pub read_condition-read_operands-requires-in_default-tag :
-    goal.read_condition-read_operands-requires-in_default-tag
-read_condition-read_operands-requires-in_default-tag t c =
-    let a = c.args in
-    let h = field-got a.s.now a.c.at 2 _ _ (sym c.in-Some.ensures) in
-    omega arith
-
 pub read_condition-returns-in-0 : goal.read_condition-returns-in-0
 read_condition-returns-in-0 t c =
     let a = c.args in
     let node = cond-node a.room a.s.now a.inputs a.seen a.c.at _ _ (sym c.in-Some.ensures) c.if-room-eq0.false in
     rw (node, lt-leb _ _ c.if-seen-ge31.false, c.in-0.is) c.read_input.ensures
 
-pub read_condition-returns-in-1 : goal.read_condition-returns-in-1
-read_condition-returns-in-1 t c =
-    let a = c.args in
-    let node = cond-node a.room a.s.now a.inputs a.seen a.c.at _ _ (sym c.in-Some.ensures) c.if-room-eq0.false in
-    rw (node, lt-leb _ _ c.if-seen-ge31.false, c.in-1.is) c.read_operands.ensures
-
-pub read_condition-returns-in-2 : goal.read_condition-returns-in-2
-read_condition-returns-in-2 t c =
-    let a = c.args in
-    let node = cond-node a.room a.s.now a.inputs a.seen a.c.at _ _ (sym c.in-Some.ensures) c.if-room-eq0.false in
-    rw (node, lt-leb _ _ c.if-seen-ge31.false, c.in-2.is) c.read_operands-in-2.ensures
-
-pub read_condition-returns-in_default-tag : goal.read_condition-returns-in_default-tag
-read_condition-returns-in_default-tag t c =
+pub read_condition-returns : goal.read_condition-returns
+read_condition-returns t c =
     let a = c.args in
     let h = field-got a.s.now a.c.at 2 _ _ (sym c.in-Some.ensures) in
-    let three : c.in-Some.tag ≡ 3 = omega arith in
+    let is : c.in-Some.tag ≡ tag_of c.match-tag.operator =
+    elim c.match-tag.branch [
+      | read_condition-in-1 w ↦ rw w.operator-is w.in-1.is
+      | read_condition-in-2 w ↦ rw w.operator-is w.in-2.is
+      | read_condition-in_default-tag w ↦ rw w.operator-is (omega arith)
+    ] in
     let node = cond-node a.room a.s.now a.inputs a.seen a.c.at _ _ (sym c.in-Some.ensures) c.if-room-eq0.false in
-    rw (node, lt-leb _ _ c.if-seen-ge31.false, three) c.read_operands-in_default-tag.ensures
+    rw (node, lt-leb _ _ c.if-seen-ge31.false, is, tag-known c.match-tag.operator) c.read_operands.ensures
 
 pub read_operands-returns-in_err-f : goal.read_operands-returns-in_err-f
 read_operands-returns-in_err-f t c =

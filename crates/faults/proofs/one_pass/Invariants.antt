@@ -1,12 +1,8 @@
 -- `faults::one_pass` meets its contract. At each turn the search from here finds what the whole search finds, and the targets of the
 -- jumps passed by are marked.
-use Prim.Native.Nat.{◌-◌}
 use Rattle.words.specs.Word.{words}
 use Rattle.faults.proofs.FaultLaws.{Looking}
 use Rattle.faults.proofs.one_pass.Given as goal
 
 abbrev pub invariant-loop-at : goal.invariant-loop-at
-invariant-loop-at l = Looking (words l.code) l.n l.targets l.landing l.at l.d
-
-abbrev pub decreases-loop-at : goal.decreases-loop-at
-decreases-loop-at l = l.n - l.at
+invariant-loop-at l = Looking (words l.code) l.n l.targets.bits l.landing l.at l.d

@@ -1,28 +1,20 @@
 -- `faults::opened` meets its contract. Assumes nothing.
 use mathlib.Core.Path.{refl}
+use mathlib.Core.Logic.{inl, inr}
 use native.Mathlib.Omega.{arith}
 use native.Mathlib.Numerals.{sub-one}
-use borrow.Author.Tests.{ne_eqb}
 use Rattle.words.specs.Word.{known}
 use Rattle.faults.specs.Check.{opens}
-use Rattle.faults.proofs.CheckLaws.{opens-code}
+use Rattle.faults.proofs.CheckLaws.{opens-flat}
 use Rattle.faults.proofs.opened.Goals as goal
 
-pub returns-then-op-eq4 : goal.returns-then-op-eq4
+pub returns-in-And : goal.returns-in-And
 unfolding known opens
-returns-then-op-eq4 c = λ a. rw c.if-op-eq4.true (omega arith)
+returns-in-And c = λ a. elim c.in-And.is [ inl e ↦ rw e (omega arith) | inr e ↦ rw e (omega arith) ]
 
-pub returns-then-op-eq5 : goal.returns-then-op-eq5
+pub returns-in-Close : goal.returns-in-Close
 unfolding known opens
-returns-then-op-eq5 c = λ a. rw c.if-op-eq5.true (omega arith)
+returns-in-Close c = λ a. rw (c.in-Close.is, c.saturating_sub.ensures, sub-one c.args.d) refl
 
-pub returns-then-d-eq0 : goal.returns-then-d-eq0
-unfolding known opens
-returns-then-d-eq0 c = λ a. rw (c.if-op-eq6.true, c.if-d-eq0.true) refl
-
-pub returns-then-op-eq6 : goal.returns-then-op-eq6
-unfolding known opens
-returns-then-op-eq6 c = λ a. rw (c.if-op-eq6.true, sub-one c.args.d) refl
-
-pub returns : goal.returns
-returns c = λ a. simp (opens-code, ne_eqb _ _ c.if-op-eq4.false, ne_eqb _ _ c.if-op-eq5.false, ne_eqb _ _ c.if-op-eq6.false)
+pub returns-in_default : goal.returns-in_default
+returns-in_default c = λ a. rw (opens-flat c.args.op a c.args.d c.in_default.not-And c.in_default.not-Or c.in_default.not-Close) refl

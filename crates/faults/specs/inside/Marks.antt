@@ -1,12 +1,13 @@
 -- How the code marks words and tells what one pass found: not needed to read the promises.
-use Rattle.std.specs.Prelude.{◌≡◌, Bool, true, false, ◌||◌, List, map, ℕ, ◌/◌, ◌%◌, ◌≤◌, ◌<◌, eqb, ltb, length, get_or, set, Some, None}
+use Rattle.std.specs.Prelude.{◌≡◌, Bool, true, false, ◌||◌, List, map, ℕ, ◌/◌, ◌%◌, ◌≤◌, ◌<◌, eqb, ltb, length, get_or, set, Ok, Err, Some, None}
+use Rattle.std.specs.declared.result.Result.{Result}
+use Rattle.answer.specs.declared.Refusal.{Refusal}
+use Rattle.answer.specs.declared.Refusal.TheVariants as refuse
 use Rattle.bits.specs.Word.{get_bit, put_bit}
 use Rattle.words.specs.Word.{decode, words}
 use Rattle.faults.specs.Check.{first_fault, depth_at, first_landing}
 use Rattle.faults.specs.declared.After.{After}
 use Rattle.faults.specs.declared.After.TheVariants.{Fault, Jump, Open}
-use Rattle.faults.specs.declared.Pass.{Pass}
-use Rattle.faults.specs.declared.Pass.TheVariants as pass
 
 -- the mark of word k is bit k % 32 of number k / 32
 unfoldable pub marked : List ℕ → ℕ → Bool
@@ -27,12 +28,13 @@ stepped true jump d = Fault
 stepped false true d = Jump
 stepped false false d = Open d
 
--- what one pass tells is so; of a landing it tells no place, and the search for the lowest needs only that no word is at fault
-abbrev pub PassTells : List ℕ → Pass → Type 0
-PassTells s (pass.Fault k) = first_fault (length (words s)) 0 0 (words s) ≡ Some k
-PassTells s pass.Landing = first_fault (length (words s)) 0 0 (words s) ≡ None
-PassTells s pass.Sound =
-    (first_fault (length (words s)) 0 0 (words s) ≡ None) × (first_landing (map decode (words s)) 0 (map decode (words s)) ≡ None)
+-- what one pass tells is so: the first word at fault; or else, where it met no landing inside a parenthesis, that there is none. It tells no
+-- place of one, and the search for the lowest needs only that no word is at fault.
+abbrev pub PassTells : List ℕ → Result Bool Refusal → Type 0
+PassTells s (Err why) = (k : ℕ) × (why ≡ refuse.Word k) × (first_fault (length (words s)) 0 0 (words s) ≡ Some k)
+PassTells s (Ok landing) =
+    (first_fault (length (words s)) 0 0 (words s) ≡ None)
+    × (landing ≡ false → first_landing (map decode (words s)) 0 (map decode (words s)) ≡ None)
 
 -- code without a faulty word, and each word marked before which a parenthesis is open
 pub record AllMarked (s bits : List ℕ) : Type 0 where

@@ -10,8 +10,8 @@ use Rattle.machine.specs.inside.Midway.{mach_in}
 use Rattle.machine.proofs.RunLaws.{Going}
 use Rattle.machine.proofs.execute.Given as goal
 
-abbrev pub invariant-loop-m : goal.invariant-loop-m
-invariant-loop-m l = Going l.code l.inputs (exec l.inputs 0 (map decode (words l.code)) 0 (mach_in l.initial.m) false [] 0) l.m
+abbrev pub invariant-loop-arg : goal.invariant-loop-arg
+invariant-loop-arg l = Going l.code l.inputs (exec l.inputs 0 (map decode (words l.code)) 0 (mach_in l.initial.m) false [] 0) l.m
 
-abbrev pub decreases-loop-m : goal.decreases-loop-m
-decreases-loop-m l = length (words l.code) - l.m.at
+abbrev pub decreases-loop-arg : goal.decreases-loop-arg
+decreases-loop-arg l = length (words l.code) - l.m.at

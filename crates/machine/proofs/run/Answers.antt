@@ -6,15 +6,8 @@ use Rattle.machine.proofs.run.Goals as goal
 
 pub returns-in-Ok : goal.returns-in-Ok
 unfolding run_code run_scan
-returns-in-Ok c =
-    rw (
-      c.ran_with.ensures,
-      sym c.in-Ok.ensures,
-      c.execute-after.ensures,
-      c.record_with-begun.ensures,
-      c.bring_forward-forward.ensures,
-    )
+returns-in-Ok c = rw (c.in-Ok.is, sym c.in-Ok.ensures, c.execute.ensures, c.bring_forward-clock.ensures)
 
 pub returns-in-Err : goal.returns-in-Err
 unfolding run_code
-returns-in-Err c = rw (c.ran_with-in-Err.ensures, sym c.in-Err.ensures)
+returns-in-Err c = rw (c.in-Err.is, sym c.in-Err.ensures)

@@ -1,8 +1,12 @@
 -- How the code holds the machine between two words: not needed to read the promises.
 use Rattle.std.specs.Prelude.{◌≡◌, Bool, false, ◌&&◌, ◌||◌, cond, List, [], ◌∷◌, ℕ, suc, ◌+◌, ◌-◌, ◌*◌, ◌%◌, ◌<◌, eqb, ltb, length}
+use Rattle.words.specs.declared.Op.{Op}
+use Rattle.words.specs.declared.Op.TheVariants.{End}
+use Rattle.words.specs.Op.{op_no}
 use Rattle.words.specs.Word.{Word, END, LDS, LDI, NOT, ANDP, ORP, PAR, ANDT, R, S, RA, SA, JMPC, JMP, TRES, known}
 use Rattle.faults.specs.Check.{opens, faulty}
-use Rattle.machine.specs.Machine.{Mach, mach_with, Frame, and_f, or_f, exec}
+use Rattle.machine.specs.Machine.{Mach, Frame, and_f, or_f, exec}
+use Rattle.machine.specs.Run.{mach_of, record_of}
 use Rattle.machine.specs.declared.Midway.{Midway}
 
 -- what is put aside as one number in base 4, the last one in the lowest digit
@@ -20,11 +24,11 @@ join_top top a = cond (ltb top 2) (eqb (top % 2) 1 || a) (eqb (top % 2) 1 && a)
 
 -- what the machine has changed and will hand back
 abbrev pub mach_in : Midway → Mach
-mach_in m = mach_with m.flags m.outputs m.clock
+mach_in m = mach_of m.record
 
 -- at a word, with a result, what is put aside and that
 abbrev pub midway : ℕ → Bool → ℕ → Mach → Midway
-midway at a x r = record { at = at; result = a; aside = x; flags = r.flags; outputs = r.outputs; clock = r.clock }
+midway at a x r = record { at = at; result = a; aside = x; «record» = record_of r }
 
 -- the words that word pc passes over, with the current result a
 unfoldable pub passed : Word → ℕ → Bool → ℕ
@@ -44,14 +48,15 @@ passed (JMPC word) pc a = cond a (word - suc pc) 0
 passed (JMP word) pc a = word - suc pc
 passed TRES pc a = 0
 
--- a word that may be executed at pc, under the stack that the number x holds: it is none of END's, and without fault
-pub record Executable (pc k a x : ℕ) : Type 0 where
+-- a word that may be executed at pc, under the stack that the number x holds: it is not END, and without fault
+pub record Executable (o : Op) (pc a x : ℕ) : Type 0 where
   pub n : ℕ
   pub stack : List Frame
   pub held : x ≡ enc stack
-  pub live : 0 < k
-  pub named : k < 15
-  pub sound : faulty n pc (length stack) (known k a) ≡ false
+  pub near : pc < 8192
+  pub small : a < 16777216
+  pub live : o ≡ End → ⊥
+  pub sound : faulty n pc (length stack) (known (op_no o) a) ≡ false
 
 -- from m to r the machine executes word i, with st put aside before it
 pub record Executes (x : ℕ) (i : Word) (m r : Midway) (st : List Frame) : Type 0 where

@@ -1,9 +1,10 @@
 -- `sheet::open_sheet` meets its contract. Assumes nothing.
-use mathlib.Core.Path.{sym, ◌∙◌}
+use mathlib.Core.Path.{refl, sym, ◌∙◌}
 use native.Mathlib.Omega.{arith}
 use Rattle.std.proofs.lemmas.Result.{err_from_is_err_and}
+use Rattle.answer.proofs.CheckedLaws.{accepted-refused}
 use Rattle.reader.proofs.Laws.{answers-done, answers-bad, read-sizes}
-use Rattle.sheet.proofs.WithLaws.{accepted-refused, check-read, check-unread}
+use Rattle.sheet.proofs.WithLaws.{check-read, check-unread}
 use Rattle.sheet.proofs.open_sheet.Goals as goal
 
 pub judge_decoded-requires : goal.judge_decoded-requires
@@ -17,7 +18,7 @@ returns-in_err-read_sheet c =
     let s = c.args.sheet.now in
     let e = answers-bad s _ _ _ c.in_err-read_sheet.ensures in
     let p = err_from_is_err_and c.from_residual.result c.from_residual.ensures.1 in
-    rw (p.1, p.2) (record { verdict = sym (check-unread s _ e); good = λ z. accepted-refused (sym z) })
+    rw (p.1, p.2) (record { verdict = sym (check-unread s _ e); good = λ z. accepted-refused z refl })
 
 pub returns : goal.returns
 returns c =

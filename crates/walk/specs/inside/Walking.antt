@@ -1,13 +1,14 @@
 -- How a walk over the bits of a condition stands to its items: not needed to read the promises.
-use Rattle.std.specs.Prelude.{◌≡◌, Bool, true, false, List, [], ◌∷◌, ◌++◌, ℕ, ◌+◌, ◌*◌, ◌-◌, ◌≤◌, ◌<◌}
+use Rattle.std.specs.Prelude.{◌≡◌, Bool, true, false, List, [], ◌∷◌, ◌++◌, ℕ, ◌+◌, ◌*◌, ◌-◌, ◌≤◌, ◌<◌, Some, None}
+use Rattle.std.specs.declared.option.Option.{Option}
 use Rattle.bits.specs.Field.{reach}
 use Rattle.condition.specs.Cond.{Cond, nodes}
 use Rattle.condition.specs.inside.Reach.{cond_end}
 use Rattle.condition.specs.inside.Lies.{size, Lies}
-use Rattle.walk.specs.Items.{Item, Turn, OpenAnd, OpenOr, Close, items, item_no, operand_of}
+use Rattle.words.specs.declared.Op.{Op}
+use Rattle.words.specs.Op.{op_no}
+use Rattle.walk.specs.Items.{Item, Load, Turn, OpenAnd, OpenOr, Close, items, item_no, operand_of}
 use Rattle.walk.specs.declared.Walk.{Walk}
-use Rattle.walk.specs.declared.Step.{Step}
-use Rattle.walk.specs.declared.Step.TheVariants as step
 
 -- what waits while an operand is walked: NOT; AND and OR with their second operand; a parenthesis to close
 pub data Frame : Type 0 where
@@ -86,18 +87,26 @@ pub record Downward (s : List ℕ) (at pending : ℕ) : Type 0 where
   pub items : List Item
   pub down : Down s at pending items
 
+-- what the code answers: what the next item's word does, its operand, and the walk behind it; or none
+abbrev pub Stepped : Type 0
+Stepped = Option (Op × ℕ × Walk)
+
 -- the answer is the first of the items, and the rest is still to come
-abbrev pub Tells : List ℕ → List Item → Step → Type 0
-Tells s [] (step.Item number operand walk) = ⊥
-Tells s [] step.Done = Unit {0}
-Tells s (i ∷ is) (step.Item number operand walk) =
-    (number ≡ item_no i) × (operand ≡ operand_of i) × (operand < 16) × Walks s walk is
-Tells s (i ∷ is) step.Done = ⊥
+abbrev pub Tells : List ℕ → List Item → Stepped → Type 0
+Tells s [] (Some x) = ⊥
+Tells s [] None = Unit {0}
+Tells s (i ∷ is) (Some x) =
+    (op_no x.0 ≡ item_no i) × (x.1 ≡ operand_of i) × (x.1 < 16) × Walks s x.2 is
+Tells s (i ∷ is) None = ⊥
+
+-- the first of the items is an input, and the rest is still to come
+abbrev pub Loads : List ℕ → List Item → ℕ → Walk → Type 0
+Loads s is input walk = (rest : List Item) × (is ≡ Load input ∷ rest) × (input < 16) × Walks s walk rest
 
 -- what falls with each item: the bits left, and below them what waits, which is less than 2 ^ 61
 unfoldable pub left : ℕ → ℕ → ℕ
 left at pending = (reach - at) * 2305843009213693952 + pending
 
-abbrev pub Falls : ℕ → ℕ → Step → Type 0
-Falls at pending (step.Item number operand walk) = left walk.at walk.pending < left at pending
-Falls at pending step.Done = Unit {0}
+abbrev pub Falls : ℕ → ℕ → Stepped → Type 0
+Falls at pending (Some x) = left x.2.at x.2.pending < left at pending
+Falls at pending None = Unit {0}

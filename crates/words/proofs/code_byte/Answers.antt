@@ -9,5 +9,5 @@ pub returns : goal.returns
 returns c =
     let s = c.args.code.now in
     let b = c.args.at * 4 in
-    let known = c.shared_slice_known-1.given in
+    let known = c.type_inv.code in
     (omega (arith, word_at_lem s c.args.at (omega arith), known (b + 1), known (b + 2), known (b + 3)), refl)

@@ -1,6 +1,6 @@
--- `faults::is_marked` meets its contract. Assumes nothing.
+-- `faults::Marks::has` meets its contract. Assumes nothing.
 use Rattle.faults.specs.inside.Marks.{marked}
-use Rattle.faults.proofs.is_marked.Goals as goal
+use Rattle.faults.proofs.Marks.has.Goals as goal
 
 pub returns : goal.returns
 unfolding marked

@@ -1,6 +1,6 @@
--- `faults::aim` meets its contract. Assumes nothing.
+-- `faults::Marks::mark` meets its contract. Assumes nothing.
 use Rattle.faults.specs.inside.Marks.{noted}
-use Rattle.faults.proofs.aim.Goals as goal
+use Rattle.faults.proofs.Marks.mark.Goals as goal
 
 pub returns : goal.returns
 unfolding noted
