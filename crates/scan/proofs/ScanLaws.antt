@@ -9,11 +9,8 @@ use borrow.Author.Tests.{lt-ltb, le-ltb}
 use lib.ListN.{get_or}
 use Rattle.answer.specs.declared.Refusal.{Refusal}
 use Rattle.answer.specs.declared.Refusal.TheVariants.{NoState}
-use Rattle.bits.specs.Word.{word_of}
 use Rattle.clock.specs.Onward.{onward}
-use Rattle.reader.specs.Sheet.{Transition, row_of, transition_of}
-use Rattle.reader.specs.inside.Packing.{arrow_at}
-use Rattle.reader.specs.inside.Decoding.{Holds}
+use Rattle.reader.specs.Sheet.{Transition}
 use Rattle.sheet.specs.Judging.{check_sheet}
 use Rattle.sheet.specs.inside.Opening.{Good}
 use Rattle.reader.specs.declared.Decoded.{Decoded}

@@ -43,13 +43,13 @@ loop-w-preserved c a k =
     let can = sym (c.can_fire.ensures t here) in
     let at = Passed x.now.state x.word x.now.clock a.transitions (i + 1) in
     elim c.if-can_fire.branch [
-    | then-can_fire w ↦
-        subst at (sym (w.best-is ∙ ap Some w.took.ensures))
-        (passed-fires x.now.state x.word x.now.clock a.transitions i c.loop-w.best low before arrow here.priority here.destination
-        (can ∙ w.if-can_fire.true))
-    | else-can_fire w ↦
-        subst at (sym w.best-is)
-        (passed-stays x.now.state x.word x.now.clock a.transitions i c.loop-w.best low before (can ∙ w.if-can_fire.false))
+      | then-can_fire w ↦
+          subst at (sym (w.best-is ∙ ap Some w.took.ensures))
+          (passed-fires x.now.state x.word x.now.clock a.transitions i c.loop-w.best low before arrow here.priority here.destination
+          (can ∙ w.if-can_fire.true))
+      | else-can_fire w ↦
+          subst at (sym w.best-is)
+          (passed-stays x.now.state x.word x.now.clock a.transitions i c.loop-w.best low before (can ∙ w.if-can_fire.false))
     ]
 
 pub returns : goal.returns

@@ -1,5 +1,5 @@
 -- How the code holds the choice of a transition, and what it answers: not needed to read the promises.
-use Rattle.std.specs.Prelude.{ℕ, cond, ◌≡◌, leb, Ok, Err, Some, None}
+use Rattle.std.specs.Prelude.{cond, ◌≡◌, leb, Ok, Err, Some, None}
 use Rattle.std.specs.declared.option.Option.{Option}
 use Rattle.std.specs.declared.result.Result.{Result}
 use Rattle.answer.specs.declared.Refusal.{Refusal}
