@@ -102,7 +102,7 @@ unfolding decode
 leap n at d w e j =
     jump-code n at d (w / 16777216) (w % 16777216) j (or_no (unknown w) (faulty n at d (known (w / 16777216) (w % 16777216))) e).1
 
-module _ (ws : List ℕ) (n : ℕ) (targets : List ℕ) (landing : Bool) (at d : ℕ) (size : n ≡ length ws) (full : length targets ≡ 256) (l : Looking ws n targets landing at d) where
+module _ {ws : List ℕ} {n : ℕ} {targets : List ℕ} {landing : Bool} {at d : ℕ} (size : n ≡ length ws) (full : length targets ≡ 256) (l : Looking ws n targets landing at d) where
   looking-on : n ≤ 8192 → at < n → (unknown (get_or ws at 0) || faulty n at d (decode (get_or ws at 0))) ≡ false
       → {d' : ℕ} → d' ≡ opens (decode (get_or ws at 0)) d → {landing' : Bool} → landing' ≡ (landing || (ltb 0 d && marked targets at))
       → {targets' : List ℕ} → targets' ≡ noted (jumps (get_or ws at 0 / 16777216)) targets (get_or ws at 0 % 16777216)

@@ -35,6 +35,7 @@ impl Marks {
     }
 
     // Whether word k is marked.
+    #[tactic(auto, unfolding(crate::specs::inside::Marks::marked))]
     fn has(&self, k: usize) -> bool
         requires { k < 8192 }
         ensures { result ≡ marked self.now.bits k }
@@ -44,6 +45,7 @@ impl Marks {
     }
 
     // Marks word k, which may be marked already.
+    #[tactic(auto, unfolding(crate::specs::inside::Marks::noted))]
     fn mark(&mut self, k: usize)
         requires { k < 8192 }
         ensures { self.new.bits ≡ noted true self.old.bits k }

@@ -60,7 +60,7 @@ returns-in_default c =
     let s = c.args.code.now in (
       l.at,
       refl,
-      found s (looking-unknown (words s) _ l.targets.bits l.landing l.at l.d (sym (words-length s)) l.targets.full l.invariant (omega arith) c.in_default.ensures.of_word.1),
+      found s (looking-unknown (sym (words-length s)) l.targets.full l.invariant (omega arith) c.in_default.ensures.of_word.1),
     )
 
 pub returns-in-Fault : goal.returns-in-Fault
@@ -69,7 +69,7 @@ returns-in-Fault c =
     let s = c.args.code.now in (
       l.at,
       refl,
-      found s (looking-hit (words s) _ l.targets.bits l.landing l.at l.d (sym (words-length s)) l.targets.full l.invariant (omega arith)
+      found s (looking-hit (sym (words-length s)) l.targets.full l.invariant (omega arith)
           (sym (tested (goal.at.returns-in-Fault c).After-after_word) ∙ c.in-Fault.is)),
     )
 
@@ -78,7 +78,7 @@ mark-requires c =
     let l = c.loop-at in
     let s = c.args.code.now in
     let jump = sym (tested (goal.at.mark-requires c).After-after_word) ∙ c.in-Jump.is in
-    omega (arith, looking-target (words s) _ l.targets.bits l.landing l.at l.d (sym (words-length s)) l.targets.full l.invariant jump, c.operand-arg.ensures.0)
+    omega (arith, looking-target (sym (words-length s)) l.targets.full l.invariant jump, c.operand-arg.ensures.0)
 
 pub loop-at-preserved : goal.loop-at-preserved
 loop-at-preserved c =
@@ -88,12 +88,12 @@ loop-at-preserved c =
     let landing = met (goal.at.loop-at-preserved c).Joined-d-gt0 in
     elim c.match-after_word.branch [
       | in-Jump w ↦
-          looking-jump (words s) _ l.targets.bits l.landing l.at l.d (sym (words-length s)) l.targets.full l.invariant (omega arith) (omega arith)
+          looking-jump (sym (words-length s)) l.targets.full l.invariant (omega arith) (omega arith)
           (sym told ∙ w.in-Jump.is) w.d-is landing
           (rw (w.targets-is, w.mark.ensures, c.operand-arg.ensures.0) refl)
       | in-Open w ↦
           rw w.targets-is
-          (looking-open (words s) _ l.targets.bits l.landing l.at l.d (sym (words-length s)) l.targets.full l.invariant (omega arith) (omega arith)
+          (looking-open (sym (words-length s)) l.targets.full l.invariant (omega arith) (omega arith)
           (sym told ∙ w.in-Open.is ∙ ap Open (sym w.d-is)) landing)
     ]
 
@@ -101,6 +101,6 @@ pub returns : goal.returns
 returns c =
     let l = c.loop-at in
     let s = c.args.code.now in (
-      found s (looking-end (words s) _ l.targets.bits l.landing l.at l.d (sym (words-length s)) l.targets.full l.invariant (omega arith)),
-      λ e. looking-sound (words s) _ l.targets.bits l.landing l.at l.d (sym (words-length s)) l.targets.full l.invariant (omega arith) e,
+      found s (looking-end (sym (words-length s)) l.targets.full l.invariant (omega arith)),
+      λ e. looking-sound (sym (words-length s)) l.targets.full l.invariant (omega arith) e,
     )
