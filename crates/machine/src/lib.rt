@@ -38,10 +38,10 @@ pub fn record_with(flags: u32, outputs: u16, clock: u32) -> Record
 // The machine between two words. What is put aside stands in base 4, the last one in the lowest digit: 2 for AND(, 1 for a true result.
 #[derive(Clone, Copy, Debug, PartialEq, Eq)]
 struct Midway {
+    record: Record,
     at: usize,
     result: bool,
     aside: u32,
-    record: Record,
 }
 
 impl Midway {
@@ -74,9 +74,8 @@ impl Midway {
         requires { i < 32 }
         ensures { let m = self.old in self.new ≡ record m { «record» = record_of (flag_to m.result (mach_in m) i on) } }
     {
-        if self.result {
-            self.record.flags = bits::put_bit(self.record.flags, i, on);
-        }
+        let flags = self.record.flags;
+        self.record.flags = if self.result { bits::put_bit(flags, i, on) } else { flags };
     }
 
     // RA and SA.
@@ -85,9 +84,8 @@ impl Midway {
         requires { i < 16 }
         ensures { let m = self.old in self.new ≡ record m { «record» = record_of (out_to m.result (mach_in m) i on) } }
     {
-        if self.result {
-            self.record.outputs = bits::put_bit(self.record.outputs as u32, i, on) as u16;
-        }
+        let outputs = self.record.outputs;
+        self.record.outputs = if self.result { bits::put_bit(outputs as u32, i, on) as u16 } else { outputs };
     }
 
     // One word that is not END.
@@ -127,10 +125,10 @@ fn execute(code: &[u8], inputs: u16, given: Record) -> Record
     ensures { result ≡ record_of (exec inputs 0 (map decode (words code.now)) 0 (mach_of given) false [] 0).mach }
 {
     let mut m = Midway {
+        record: given,
         at: 0,
         result: false,
         aside: 0,
-        record: given,
     };
     loop {
         let op = words::op_at(code, m.at).unwrap();
@@ -143,21 +141,17 @@ fn execute(code: &[u8], inputs: u16, given: Record) -> Record
 }
 
 // One scan: refused code hands the record back as it was given.
+#[tactic(auto, unfolding(crate::specs::Run::run_code, crate::specs::Machine::run_scan))]
 pub fn run(code: &[u8], given: Record, inputs: u16, elapsed: u32) -> Ran
     ensures { Runs code.now given inputs elapsed result }
 {
     let verdict = faults::check_code(code);
-    match verdict {
+    let record = match verdict {
         Ok(()) => {
             let clock = clock::bring_forward(given.clock, elapsed);
-            Answered {
-                verdict,
-                record: execute(code, inputs, Record { clock, ..given }),
-            }
+            execute(code, inputs, Record { clock, ..given })
         }
-        Err(_) => Answered {
-            verdict,
-            record: given,
-        },
-    }
+        Err(_) => given,
+    };
+    Answered { verdict, record }
 }
