@@ -3,7 +3,6 @@
 
 ghost use Rattle.std.specs.Prelude.{◌≡◌, false, List, [], map, ◌+◌, ◌*◌, ◌/◌, ◌%◌, ◌<◌};
 ghost use mir.Val.{bool_byte};
-ghost use Rattle.bits.specs.Word.{put_bit};
 ghost use Rattle.words.specs.Op.{op_no};
 ghost use Rattle.words.specs.Word.{known, decode, words};
 ghost use Rattle.faults.specs.Check.{check_code};
@@ -36,21 +35,13 @@ pub fn record_with(flags: u32, outputs: u16, clock: u32) -> Record
     }
 }
 
-// The word with bit i made on or off.
-fn put_bit(w: u32, i: u32, on: bool) -> u32
-    requires { i < 32 }
-    ensures { result ≡ put_bit w i on }
-{
-    if on { bits::set_bit(w, i) } else { bits::clear_bit(w, i) }
-}
-
 // The machine between two words. What is put aside stands in base 4, the last one in the lowest digit: 2 for AND(, 1 for a true result.
 #[derive(Clone, Copy, Debug, PartialEq, Eq)]
 struct Midway {
+    record: Record,
     at: usize,
     result: bool,
     aside: u32,
-    record: Record,
 }
 
 impl Midway {
@@ -69,7 +60,11 @@ impl Midway {
     {
         let top = self.aside % 4;
         let kept = top % 2 == 1;
-        self.result = if top < 2 { kept | self.result } else { kept & self.result };
+        self.result = if top < 2 {
+            kept | self.result
+        } else {
+            kept & self.result
+        };
         self.aside /= 4;
     }
 
@@ -79,9 +74,8 @@ impl Midway {
         requires { i < 32 }
         ensures { let m = self.old in self.new ≡ record m { «record» = record_of (flag_to m.result (mach_in m) i on) } }
     {
-        if self.result {
-            self.record.flags = put_bit(self.record.flags, i, on);
-        }
+        let flags = self.record.flags;
+        self.record.flags = if self.result { bits::put_bit(flags, i, on) } else { flags };
     }
 
     // RA and SA.
@@ -90,9 +84,8 @@ impl Midway {
         requires { i < 16 }
         ensures { let m = self.old in self.new ≡ record m { «record» = record_of (out_to m.result (mach_in m) i on) } }
     {
-        if self.result {
-            self.record.outputs = put_bit(self.record.outputs as u32, i, on) as u16;
-        }
+        let outputs = self.record.outputs;
+        self.record.outputs = if self.result { bits::put_bit(outputs as u32, i, on) as u16 } else { outputs };
     }
 
     // One word that is not END.
@@ -132,10 +125,10 @@ fn execute(code: &[u8], inputs: u16, given: Record) -> Record
     ensures { result ≡ record_of (exec inputs 0 (map decode (words code.now)) 0 (mach_of given) false [] 0).mach }
 {
     let mut m = Midway {
+        record: given,
         at: 0,
         result: false,
         aside: 0,
-        record: given,
     };
     loop {
         let op = words::op_at(code, m.at).unwrap();
@@ -148,21 +141,17 @@ fn execute(code: &[u8], inputs: u16, given: Record) -> Record
 }
 
 // One scan: refused code hands the record back as it was given.
+#[tactic(auto, unfolding(crate::specs::Run::run_code, crate::specs::Machine::run_scan))]
 pub fn run(code: &[u8], given: Record, inputs: u16, elapsed: u32) -> Ran
     ensures { Runs code.now given inputs elapsed result }
 {
     let verdict = faults::check_code(code);
-    match verdict {
+    let record = match verdict {
         Ok(()) => {
             let clock = clock::bring_forward(given.clock, elapsed);
-            Answered {
-                verdict,
-                record: execute(code, inputs, Record { clock, ..given }),
-            }
+            execute(code, inputs, Record { clock, ..given })
         }
-        Err(_) => Answered {
-            verdict,
-            record: given,
-        },
-    }
+        Err(_) => given,
+    };
+    Answered { verdict, record }
 }
