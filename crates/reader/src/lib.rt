@@ -1,4 +1,4 @@
-// Reading a sheet: header, rows, transitions, and nothing more. Numbers 1 to 6, in reading order; the sheet is decoded once.
+// Reading a sheet: header, rows, transitions, and nothing more. Numbers 1 to 6, in reading order; it is decoded once.
 #![tactic(auto)]
 
 ghost use Rattle.std.specs.Prelude.{◌≡◌, ◌+◌, ◌≤◌, ◌<◌, length, take};
@@ -9,7 +9,7 @@ ghost use Rattle.bits.specs.inside.Told.{told};
 ghost use Rattle.condition.specs.inside.Reach.{cond_reach};
 ghost use Rattle.reader.specs.Reading.{read_header, row_at, transition_at, ends_at, read_sheet};
 ghost use Rattle.reader.specs.inside.Packing.{pack, unpack, Digits, arrow_reach};
-ghost use Rattle.reader.specs.inside.Decoding.{HoldsRows, pair_of, names_at, ArrowIs, rest_at, HoldsArrows, Answers};
+ghost use Rattle.reader.specs.inside.Decoding.{HoldsRows, pair_of, names_at, ArrowIs, rest_at, transitions_at, HoldsArrows, Answers};
 
 use answer::Refusal;
 use bits::{Cursor, Read};
@@ -36,7 +36,7 @@ pub struct Arrow {
     pub cond: usize,
 }
 
-// A sheet decoded once, in a place that the caller lends: its header, each state's outputs as a word, its arrows packed.
+// A sheet decoded once, in a place that the caller lends: its header, its states' outputs as words, its arrows packed.
 // That the header's counts fit stands at the methods: beside a ghost field the arrays could not be lent.
 #[derive(Drop)]
 pub struct Decoded {
@@ -196,8 +196,8 @@ pub fn unpacked(w: u64) -> Arrow
     }
 }
 
-// The rest of a transition behind its two states: priority, wait and condition. The answer is the condition's, which document 01 has
-// opened by `let .. else`; so the arrow that is lent keeps the whole.
+// The rest of a transition behind its two states: priority, wait and condition. The answer is the condition's, which
+// document 01 has opened by `let .. else`; so the arrow that is lent keeps the whole.
 fn read_rest(
     s: &[u8],
     c: Cursor,
@@ -248,7 +248,7 @@ fn read_transitions(
     arrows: &mut [u64],
 ) -> Result<Cursor, Refusal>
     requires { (c.at ≤ 1000) × (length arrows.old ≤ 128) }
-    ensures { HoldsArrows s.now header.inputs (upto (transition_at s.now header.states header.inputs) c.at (length arrows.old)) result arrows.new }
+    ensures { HoldsArrows s.now header.inputs (transitions_at s.now header c.at (length arrows.old)) result arrows.new }
 {
     let mut here = c;
     for arrow in arrows.iter_mut() {

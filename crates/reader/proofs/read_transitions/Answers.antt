@@ -29,8 +29,8 @@ loop-arrow-preserved c =
       omega (arith, transition-next a.s.now a.header.states a.header.inputs l.here.at x.1),
       l.invariant.1 ++ x.0 ∷ [],
       upto-more read a.c.at l.arrow-index l.invariant.2 x.1,
-      filled_more (λ w t. Holds a.s.now a.header.inputs (unpack w) t) 0 no_transition l.arrows l.invariant.1 l.arrow-index word x.0 (omega arith) many
-          l.invariant.3 x.2,
+      filled_more (λ w t. Holds a.s.now a.header.inputs (unpack w) t) 0 no_transition l.arrows l.invariant.1 l.arrow-index word x.0
+          (omega arith) many l.invariant.3 x.2,
     )
 
 pub returns-in_err-next : goal.returns-in_err-next
