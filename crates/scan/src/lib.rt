@@ -58,7 +58,8 @@ struct Best {
     destination: u8,
 }
 
-// Whether the arrow's transition can fire: its condition is judged straight from the sheet's bits, and only if its source is the active state.
+// Whether the arrow's transition can fire: its condition is judged straight from the sheet's bits, and only if its source
+// is the active state.
 fn can_fire(sheet: &[u8], arrow: Arrow, inputs: u32, now: State, word: u32) -> bool
     requires { arrow.cond < cond_reach }
     ensures { (t : Transition) → Holds sheet.now inputs arrow t → result ≡ can now.state word now.clock t }

@@ -31,7 +31,9 @@ returns-in-None c =
     let a = c.args in
     let g = c.in_ok-open_sheet.ensures.good refl in
     let low : a.«record».state < g.sheet.states = omega (arith, g.copy.states) in
-    sym (scan-stays a.sheet.now _ g a.«record» a.inputs a.elapsed _ _ low c.bring_forward.ensures c.from-2.ensures (c.in-None.ensures g.sheet g.copy))
+    sym
+    (scan-stays a.sheet.now _ g a.«record» a.inputs a.elapsed _ _ low c.bring_forward.ensures c.from-2.ensures
+    (c.in-None.ensures g.sheet g.copy))
 
 pub returns-in-Some : goal.returns-in-Some
 returns-in-Some c =
@@ -39,4 +41,6 @@ returns-in-Some c =
     let g = c.in_ok-open_sheet.ensures.good refl in
     let low : a.«record».state < g.sheet.states = omega (arith, g.copy.states) in
     ap accepted c.state_with.ensures
-    ∙ sym (scan-moves a.sheet.now _ g a.«record» a.inputs a.elapsed _ _ low c.bring_forward.ensures c.from-2.ensures c.in-Some.best (c.in-Some.ensures g.sheet g.copy))
+    ∙ sym
+    (scan-moves a.sheet.now _ g a.«record» a.inputs a.elapsed _ _ low c.bring_forward.ensures c.from-2.ensures c.in-Some.best
+    (c.in-Some.ensures g.sheet g.copy))
