@@ -13,7 +13,6 @@ use Rattle.bits.specs.Word.{get_bit}
 use Rattle.machine.specs.declared.Midway.{Midway}
 use Rattle.words.specs.declared.Op.{Op}
 use Rattle.words.specs.declared.Op.TheVariants as op
-use Rattle.words.specs.Op.{op_no}
 use Rattle.words.specs.Word.{LDS, LDI, NOT, ANDP, ORP, PAR, ANDT, R, S, RA, SA, JMPC, JMP, TRES, known}
 use Rattle.machine.specs.Machine.{Frame, and_f, or_f, join, with_clock, flag_to, out_to, exec}
 use Rattle.faults.specs.Check.{opens, faulty}

@@ -41,7 +41,11 @@ fn put_bit(w: u32, i: u32, on: bool) -> u32
     requires { i < 32 }
     ensures { result ≡ put_bit w i on }
 {
-    if on { bits::set_bit(w, i) } else { bits::clear_bit(w, i) }
+    if on {
+        bits::set_bit(w, i)
+    } else {
+        bits::clear_bit(w, i)
+    }
 }
 
 // The machine between two words. What is put aside stands in base 4, the last one in the lowest digit: 2 for AND(, 1 for a true result.
@@ -69,7 +73,11 @@ impl Midway {
     {
         let top = self.aside % 4;
         let kept = top % 2 == 1;
-        self.result = if top < 2 { kept | self.result } else { kept & self.result };
+        self.result = if top < 2 {
+            kept | self.result
+        } else {
+            kept & self.result
+        };
         self.aside /= 4;
     }
 
@@ -80,7 +88,11 @@ impl Midway {
         ensures { let m = self.old in self.new ≡ record m { «record» = record_of (flag_to m.result (mach_in m) i on) } }
     {
         let flags = self.record.flags;
-        self.record.flags = if self.result { put_bit(flags, i, on) } else { flags };
+        self.record.flags = if self.result {
+            put_bit(flags, i, on)
+        } else {
+            flags
+        };
     }
 
     // RA and SA.
@@ -90,7 +102,11 @@ impl Midway {
         ensures { let m = self.old in self.new ≡ record m { «record» = record_of (out_to m.result (mach_in m) i on) } }
     {
         let outputs = self.record.outputs;
-        self.record.outputs = if self.result { put_bit(outputs as u32, i, on) as u16 } else { outputs };
+        self.record.outputs = if self.result {
+            put_bit(outputs as u32, i, on) as u16
+        } else {
+            outputs
+        };
     }
 
     // One word that is not END.
