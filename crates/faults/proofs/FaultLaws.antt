@@ -7,8 +7,7 @@ use Prim.Native.Nat.{ℕ, ◌+◌, ◌*◌, ◌/◌, ◌%◌, ◌≤◌, ◌<◌
 use native.Mathlib.Omega.{arith}
 use native.Mathlib.Numerals.{add-one}
 use borrow.Author.Count.{below_more}
-use borrow.Author.Tests.{eqb-true}
-use lib.Dec.{eqb, ltb}
+use lib.Dec.{ltb}
 use lib.ListN.{length, get_or, drop, length-map, replicate}
 use Rattle.words.specs.Word.{Word, known, decode}
 use Rattle.faults.specs.Check.{opens, faulty, unknown, first_fault, depth_at, lands_open, first_landing}

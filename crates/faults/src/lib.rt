@@ -86,7 +86,8 @@ fn opened(op: Op, d: usize) -> usize
     }
 }
 
-// 16; or else whether there is a 17. The targets of jumps are marked: they go forward, so that at each word all jumps to it have been met.
+// 16; or else whether there is a 17. The targets of jumps are marked: jumps go forward, so that at each word all jumps to
+// it have been met.
 fn one_pass(code: &[u8]) -> Result<bool, Refusal>
     requires { length code.now ≤ 32768 }
     ensures { PassTells code.now result }
@@ -163,7 +164,8 @@ fn check_landings(code: &[u8]) -> Checked
     Ok(())
 }
 
-// Whether code may be run: 15, then 16, then 17, each at its lowest place. The words are passed over again only if there is a 17.
+// Whether code may be run: 15, then 16, then 17, each at its lowest place. The words are passed over again only if there
+// is a 17.
 pub fn check_code(code: &[u8]) -> Checked
     ensures { ChecksCode code.now result }
 {

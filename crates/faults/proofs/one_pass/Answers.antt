@@ -1,6 +1,6 @@
 -- `faults::one_pass` meets its contract. At each turn the search from here finds what the whole search finds, and the targets of the
 -- jumps passed by are marked. Assumes nothing.
-use mathlib.Core.Path.{◌≡◌, refl, sym, ap, ◌∙◌}
+use mathlib.Core.Path.{◌≡◌, refl, sym, ◌∙◌}
 use mathlib.Core.Bool.{true, ◌&&◌, ◌||◌}
 use mathlib.Core.List.{List}
 use Prim.Native.Nat.{ℕ, ◌+◌, ◌*◌, ◌/◌, ◌%◌}
@@ -63,12 +63,11 @@ returns-in_default c =
 pub returns-then-faulty : goal.returns-then-faulty
 returns-then-faulty c =
     let l = c.loop-at in
-    let s = c.args.code.now in
-    (
+    let s = c.args.code.now in (
       l.at,
       refl,
       found s (looking-hit (sym (words-length s)) l.targets.full l.invariant (omega arith)
-      (sym (tested (goal.at.returns-then-faulty c).After-faulty) ∙ c.if-faulty.true)),
+          (sym (tested (goal.at.returns-then-faulty c).After-faulty) ∙ c.if-faulty.true)),
     )
 
 -- the target of a jump is marked

@@ -20,8 +20,8 @@ noted false marks k = marks
 abbrev pub jumps : ℕ → Bool
 jumps k = eqb k 12 || eqb k 13
 
--- what one pass tells is so: the first word at fault; or else, where it met no landing inside a parenthesis, that there is none. It tells no
--- place of one, and the search for the lowest needs only that no word is at fault.
+-- what one pass tells is so: the first word at fault; or else, where it met no landing inside a parenthesis, that there is
+-- none. It tells no place of one, and the search for the lowest needs only that no word is at fault.
 abbrev pub PassTells : List ℕ → Result Bool Refusal → Type 0
 PassTells s (Err why) = (k : ℕ) × (why ≡ refuse.Word k) × (first_fault (length (words s)) 0 0 (words s) ≡ Some k)
 PassTells s (Ok landing) =
