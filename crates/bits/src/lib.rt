@@ -17,7 +17,7 @@ pub struct Cursor {
 pub type Read<T> = Result<(T, Cursor), Refusal>;
 
 // The bytes before `stop` that the field at `at` is in. As many of the last ones are taken as a field of this width
-// fills at least, and its first byte, which may be one of them, is put above them: what stands above a field is cut off.
+// fills at least, and its first byte, which may be one of them, is put above them: what is above a field is cut off.
 // Byte by byte and not by a fold over them, which takes twice as long a field (measured).
 fn gathered(s: &[u8], at: usize, width: usize, stop: usize) -> u64
     requires { (at < reach) × (1 ≤ width) × (width ≤ 24) × (stop ≡ (at + width + 7) / 8) × (stop ≤ length s.now) }
@@ -37,6 +37,7 @@ fn gathered(s: &[u8], at: usize, width: usize, stop: usize) -> u64
 }
 
 // The number that the `width` bits from `at` on are, where they are there: cut out of the bytes that they are in.
+// The place stands beside the bytes because it is a bit, and no slice begins at a bit.
 pub fn number(s: &[u8], at: usize, width: usize) -> u32
     requires { (at < reach) × (1 ≤ width) × (width ≤ 24) × (at + width ≤ length s.now * 8) }
     ensures { result ≡ num_at s.now at width }
@@ -49,6 +50,7 @@ pub fn number(s: &[u8], at: usize, width: usize) -> u32
 }
 
 // The field of `width` bits from the cursor on with the cursor after it, where it is there.
+// The width is a plain number: each caller writes out the paper's, and a type for it would be no plainer.
 pub fn field(s: &[u8], c: Cursor, width: usize) -> Option<(u32, Cursor)>
     requires { (c.at < reach) × (1 ≤ width) × (width ≤ 24) }
     ensures { result ≡ field_at s.now c.at width }
@@ -83,7 +85,7 @@ pub fn put_bit(w: u32, i: u32, bit: bool) -> u32
     }
 }
 
-// The word with bit i made 1.
+// The word with bit i made 1: what most callers ask for, under the name that DECISIONS gives it.
 pub fn set_bit(w: u32, i: u32) -> u32
     requires { i < 32 }
     ensures { result ≡ put_bit w i true }

@@ -1,4 +1,5 @@
-// A condition: a prefix expression of two-bit tags, read from the bits of a sheet. Reading makes no tree; it tells what later work asks for.
+// A condition: a prefix expression of two-bit tags, read from the bits of a sheet. Reading makes no tree; it tells what
+// later work asks for.
 #![tactic(auto)]
 
 ghost use Rattle.std.specs.Prelude.{◌≡◌, ◌+◌, ◌*◌, ◌≤◌, ◌<◌};
@@ -20,7 +21,8 @@ pub enum Form {
     Gated,
 }
 
-// The nodes of a condition and of what was read before it; the condition's value at an input word, its form and its words of code.
+// The nodes of a condition and of what was read before it; the condition's value at an input word, its form and its
+// words of code.
 #[derive(Clone, Copy, Debug, PartialEq, Eq)]
 pub struct Facts {
     pub nodes: u32,
@@ -92,7 +94,8 @@ fn read_input(s: &[u8], c: Cursor, inputs: u32, seen: u32, word: u32) -> Read<Fa
     Ok((facts, next))
 }
 
-// The condition at the cursor, at most `room` deep, of a sheet with `inputs` inputs, where `seen` nodes stand before it.
+// The condition at the cursor, at most `room` deep, of a sheet with `inputs` inputs, with `seen` nodes before it.
+// No struct holds what the cycle hands on: with one, reading a condition takes a tenth longer (measured).
 #[cycle(read_condition_read_operands)]
 pub fn read_condition(
     s: &[u8],

@@ -211,23 +211,22 @@ pub jumps-both : (o : Op) → (o ≡ op.Jmpc) ⊎ (o ≡ op.Jmp) → jumps (op_n
 jumps-both o (inl e) = rw e refl
 jumps-both o (inr e) = rw e refl
 
-pub lands-other : (code : List Word) (o : Op) (a : ℕ) → (o ≡ op.Jmpc → ⊥) → (o ≡ op.Jmp → ⊥) → lands_open code (known (op_no o) a) ≡ false
-unfolding lands_open known
-lands-other code op.End a x y = refl
-lands-other code op.Lds a x y = refl
-lands-other code op.Ldi a x y = refl
-lands-other code op.Not a x y = refl
-lands-other code op.And a x y = refl
-lands-other code op.Or a x y = refl
-lands-other code op.Close a x y = refl
-lands-other code op.Andt a x y = refl
-lands-other code op.R a x y = refl
-lands-other code op.S a x y = refl
-lands-other code op.Ra a x y = refl
-lands-other code op.Sa a x y = refl
-lands-other code op.Jmpc a x y = absurd (x refl)
-lands-other code op.Jmp a x y = absurd (y refl)
-lands-other code op.Tres a x y = refl
+pub jumps-other : (o : Op) → (o ≡ op.Jmpc → ⊥) → (o ≡ op.Jmp → ⊥) → jumps (op_no o) ≡ false
+jumps-other op.End x y = refl
+jumps-other op.Lds x y = refl
+jumps-other op.Ldi x y = refl
+jumps-other op.Not x y = refl
+jumps-other op.And x y = refl
+jumps-other op.Or x y = refl
+jumps-other op.Close x y = refl
+jumps-other op.Andt x y = refl
+jumps-other op.R x y = refl
+jumps-other op.S x y = refl
+jumps-other op.Ra x y = refl
+jumps-other op.Sa x y = refl
+jumps-other op.Jmpc x y = absurd (x refl)
+jumps-other op.Jmp x y = absurd (y refl)
+jumps-other op.Tres x y = refl
 
 -- a word without fault leaves at most eight open
 pub opens-eight : (n pc d : ℕ) (i : Word) → faulty n pc d i ≡ false → d ≤ 8 → opens i d ≤ 8

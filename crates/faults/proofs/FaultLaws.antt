@@ -7,42 +7,13 @@ use Prim.Native.Nat.{ℕ, ◌+◌, ◌*◌, ◌/◌, ◌%◌, ◌≤◌, ◌<◌
 use native.Mathlib.Omega.{arith}
 use native.Mathlib.Numerals.{add-one}
 use borrow.Author.Count.{below_more}
-use borrow.Author.Tests.{eqb-true}
-use lib.Dec.{eqb, ltb}
+use lib.Dec.{ltb}
 use lib.ListN.{length, get_or, drop, length-map, replicate}
-use Rattle.faults.specs.declared.After.{After}
-use Rattle.faults.specs.declared.After.TheVariants.{Fault, Jump, Open}
 use Rattle.words.specs.Word.{Word, known, decode}
 use Rattle.faults.specs.Check.{opens, faulty, unknown, first_fault, depth_at, lands_open, first_landing}
-use Rattle.faults.specs.inside.Marks.{marked, noted, jumps, stepped}
+use Rattle.faults.specs.inside.Marks.{marked, noted, jumps}
 use Rattle.faults.proofs.CheckLaws.{or_no, beyond, fault-on, fault-here, fault-end, depth-on, depth-start, read_at, opens-most, sound-from, lands-to, lands-code, jump-code}
 use Rattle.faults.proofs.MarkLaws.{noted-now, noted-keeps, noted-before}
-
--- what was told after a word, the other way round
-was-fault : (fault jump : Bool) (d : ℕ) → stepped fault jump d ≡ Fault → fault ≡ true
-was-fault true jump d h = refl
-was-fault false true d h = cc
-was-fault false false d h = cc
-
-was-jump : (fault jump : Bool) (d : ℕ) → stepped fault jump d ≡ Jump → (fault ≡ false) × (jump ≡ true)
-was-jump true jump d h = cc
-was-jump false true d h = (refl, refl)
-was-jump false false d h = cc
-
-was-open : (fault jump : Bool) (d e : ℕ) → stepped fault jump d ≡ Open e → (fault ≡ false) × (jump ≡ false) × (d ≡ e)
-was-open true jump d e h = cc
-was-open false true d e h = cc
-was-open false false d e h = (refl, refl, cc)
-
--- a jump opens and closes nothing
-jump-flat : (k a d : ℕ) → jumps k ≡ true → opens (known k a) d ≡ d
-unfolding opens known
-jump-flat k a d e = go (eqb k 12) refl (eqb k 13) refl e
-  where
-    go : (x : Bool) → eqb k 12 ≡ x → (y : Bool) → eqb k 13 ≡ y → (x || y) ≡ true → opens (known k a) d ≡ d
-    go true p y q z = rw (eqb-true k 12 p) refl
-    go false p true q z = rw (eqb-true k 13 q) refl
-    go false p false q z = cc
 
 -- a parenthesis is open just before word k
 abbrev pub inside : List ℕ → ℕ → Bool
@@ -102,8 +73,8 @@ unfolding decode
 leap n at d w e j =
     jump-code n at d (w / 16777216) (w % 16777216) j (or_no (unknown w) (faulty n at d (known (w / 16777216) (w % 16777216))) e).1
 
-module _ (ws : List ℕ) (n : ℕ) (targets : List ℕ) (landing : Bool) (at d : ℕ) (size : n ≡ length ws) (full : length targets ≡ 256) (l : Looking ws n targets landing at d) where
-  looking-on : n ≤ 8192 → at < n → (unknown (get_or ws at 0) || faulty n at d (decode (get_or ws at 0))) ≡ false
+module _ {ws : List ℕ} {n : ℕ} {targets : List ℕ} {landing : Bool} {at d : ℕ} (size : n ≡ length ws) (full : length targets ≡ 256) (l : Looking ws n targets landing at d) where
+  pub looking-on : n ≤ 8192 → at < n → (unknown (get_or ws at 0) || faulty n at d (decode (get_or ws at 0))) ≡ false
       → {d' : ℕ} → d' ≡ opens (decode (get_or ws at 0)) d → {landing' : Bool} → landing' ≡ (landing || (ltb 0 d && marked targets at))
       → {targets' : List ℕ} → targets' ≡ noted (jumps (get_or ws at 0 / 16777216)) targets (get_or ws at 0 % 16777216)
       → Looking ws n targets' landing' (at + 1) d'
@@ -128,35 +99,13 @@ module _ (ws : List ℕ) (n : ℕ) (targets : List ℕ) (landing : Bool) (at d :
             (λ q. rw (← l.depth.deep) (and-not (ltb 0 d) (marked targets at) no.1 q)) k b was;
       }
 
-  -- what is told after word `at`
-  abbrev here : After
-  here =
-      let w = get_or ws at 0 in
-      stepped (unknown w || faulty n at d (decode w)) (jumps (w / 16777216)) (opens (decode w) d)
-
-  pub looking-jump : n ≤ 8192 → at < n → here ≡ Jump → {d' : ℕ} → d' ≡ d → {landing' : Bool} → landing' ≡ (landing || (ltb 0 d && marked targets at))
-      → {targets' : List ℕ} → targets' ≡ noted true targets (get_or ws at 0 % 16777216) → Looking ws n targets' landing' (at + 1) d'
-  unfolding decode
-  looking-jump small h e ed el et =
-      let w = get_or ws at 0 in
-      let j = was-jump _ _ _ e in
-      looking-on small h j.0 (ed ∙ sym (jump-flat (w / 16777216) (w % 16777216) d j.1)) el
-      (et ∙ ap (λ (b : Bool). noted b targets (w % 16777216)) (sym j.1))
-
-  pub looking-open : n ≤ 8192 → at < n → {d' : ℕ} → here ≡ Open d' → {landing' : Bool} → landing' ≡ (landing || (ltb 0 d && marked targets at))
-      → Looking ws n targets landing' (at + 1) d'
-  unfolding noted
-  looking-open small h {d'} e el =
-      let w = get_or ws at 0 in
-      let o = was-open _ _ _ d' e in
-      looking-on small h o.0 (sym o.2) el (ap (λ (b : Bool). noted b targets (w % 16777216)) (sym o.1))
-
   -- the target of a jump is a word of the code
-  pub looking-target : here ≡ Jump → get_or ws at 0 % 16777216 < n
-  looking-target e = let j = was-jump _ _ _ e in (leap n at d (get_or ws at 0) j.0 j.1).1
+  pub looking-target : (unknown (get_or ws at 0) || faulty n at d (decode (get_or ws at 0))) ≡ false
+      → jumps (get_or ws at 0 / 16777216) ≡ true → get_or ws at 0 % 16777216 < n
+  looking-target e j = (leap n at d (get_or ws at 0) e j).1
 
-  pub looking-hit : at < n → here ≡ Fault → first_fault n 0 0 ws ≡ Some at
-  looking-hit h e = sym l.same ∙ fault-here n d ws at (omega arith) (was-fault _ _ _ e)
+  pub looking-hit : at < n → (unknown (get_or ws at 0) || faulty n at d (decode (get_or ws at 0))) ≡ true → first_fault n 0 0 ws ≡ Some at
+  looking-hit h e = sym l.same ∙ fault-here n d ws at (omega arith) e
 
   -- a code byte that nothing has
   pub looking-unknown : at < n → 15 ≤ get_or ws at 0 / 16777216 → first_fault n 0 0 ws ≡ Some at

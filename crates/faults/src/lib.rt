@@ -7,18 +7,10 @@ ghost use Rattle.answer.specs.Lowest.{refuse_at};
 ghost use Rattle.words.specs.Op.{op_no};
 ghost use Rattle.words.specs.Word.{known, decode, words, word_at};
 ghost use Rattle.faults.specs.Check.{end_fault, opens, faulty, unknown, first_fault, depth_at, lands_open, first_landing, ChecksCode};
-ghost use Rattle.faults.specs.inside.Marks.{marked, noted, jumps, stepped, PassTells, AllMarked};
+ghost use Rattle.faults.specs.inside.Marks.{marked, noted, PassTells, AllMarked};
 
 use answer::{Checked, Refusal};
 use words::Op;
-
-// What follows a word: it is at fault; or it is a jump, and as many parentheses are open as before it; or so many are open.
-#[derive(Clone, Copy, Debug, PartialEq, Eq)]
-enum After {
-    Fault,
-    Jump,
-    Open(usize),
-}
 
 // A mark for each word that code may have.
 #[derive(Drop)]
@@ -35,6 +27,7 @@ impl Marks {
     }
 
     // Whether word k is marked.
+    #[tactic(auto, unfolding(crate::specs::inside::Marks::marked))]
     fn has(&self, k: usize) -> bool
         requires { k < 8192 }
         ensures { result ≡ marked self.now.bits k }
@@ -44,6 +37,7 @@ impl Marks {
     }
 
     // Marks word k, which may be marked already.
+    #[tactic(auto, unfolding(crate::specs::inside::Marks::noted))]
     fn mark(&mut self, k: usize)
         requires { k < 8192 }
         ensures { self.new.bits ≡ noted true self.old.bits k }
@@ -62,46 +56,21 @@ fn end_fault(code: &[u8]) -> bool
     len == 0 || 32768 < len || 0 < len % 4 || 0 < code[len - 4]
 }
 
-// After a word that leaves d parentheses open, unless it is at fault.
-fn unless(fault: bool, d: usize) -> After
-    ensures { result ≡ stepped fault false d }
-{
-    if fault { After::Fault } else { After::Open(d) }
-}
-
-// After ), where `spare` says whether its operand is at fault.
-fn closed(spare: bool, d: usize) -> After
-    ensures { result ≡ stepped (spare || eqb d 0) false (pred d) }
-{
-    if spare | (d == 0) {
-        return After::Fault;
-    }
-    After::Open(d - 1)
-}
-
-// After a jump, unless it is at fault.
-fn jumped(fault: bool) -> After
-    ensures { (d : ℕ) → result ≡ stepped fault true d }
-{
-    if fault { After::Fault } else { After::Jump }
-}
-
-// After word `at` of n, with d parentheses open before it.
-fn after_word(n: usize, at: usize, d: usize, op: Op, arg: usize) -> After
-    requires { (arg < 16777216) × (d < 65536) }
-    ensures { let w = op_no op * 16777216 + arg in
-        result ≡ stepped (unknown w || faulty n at d (decode w)) (jumps (op_no op)) (opens (known (op_no op) arg) d) }
+// 16: whether word `at` of n is at fault, with d parentheses open before it.
+fn faulty(n: usize, at: usize, d: usize, op: Op, arg: usize) -> bool
+    requires { arg < 16777216 }
+    ensures { let w = op_no op * 16777216 + arg in result ≡ (unknown w || faulty n at d (decode w)) }
 {
     match op {
-        Op::End => unless((0 < arg) | (0 < d), d),
-        Op::Lds => unless((31 < arg) | (0 < d), d),
-        Op::Not | Op::Tres => unless(0 < arg, d),
-        Op::And | Op::Or => unless((0 < arg) | (8 <= d), d + 1),
-        Op::Close => closed(0 < arg, d),
-        Op::Andt => unless(false, d),
-        Op::R | Op::S => unless(31 < arg, d),
-        Op::Ldi | Op::Ra | Op::Sa => unless(15 < arg, d),
-        Op::Jmpc | Op::Jmp => jumped(!((at < arg) & (arg < n)) | (0 < d)),
+        Op::End => (0 < arg) | (0 < d),
+        Op::Lds => (31 < arg) | (0 < d),
+        Op::Not | Op::Tres => 0 < arg,
+        Op::And | Op::Or => (0 < arg) | (8 <= d),
+        Op::Close => (0 < arg) | (d == 0),
+        Op::Andt => false,
+        Op::R | Op::S => 31 < arg,
+        Op::Ldi | Op::Ra | Op::Sa => 15 < arg,
+        Op::Jmpc | Op::Jmp => !((at < arg) & (arg < n)) | (0 < d),
     }
 }
 
@@ -117,7 +86,8 @@ fn opened(op: Op, d: usize) -> usize
     }
 }
 
-// 16; or else whether there is a 17. The targets of jumps are marked: they go forward, so that at each word all jumps to it have been met.
+// 16; or else whether there is a 17. The targets of jumps are marked: jumps go forward, so that at each word all jumps to
+// it have been met.
 fn one_pass(code: &[u8]) -> Result<bool, Refusal>
     requires { length code.now ≤ 32768 }
     ensures { PassTells code.now result }
@@ -134,11 +104,13 @@ fn one_pass(code: &[u8]) -> Result<bool, Refusal>
             return Err(Refusal::Word(at));
         };
         let arg = words::operand(code, at);
-        match after_word(n, at, d, op, arg) {
-            After::Fault => return Err(Refusal::Word(at)),
-            After::Jump => targets.mark(arg),
-            After::Open(e) => d = e,
+        if faulty(n, at, d, op, arg) {
+            return Err(Refusal::Word(at));
         }
+        if let Op::Jmpc | Op::Jmp = op {
+            targets.mark(arg);
+        }
+        d = opened(op, d);
     }
     Ok(landing)
 }
@@ -192,7 +164,8 @@ fn check_landings(code: &[u8]) -> Checked
     Ok(())
 }
 
-// Whether code may be run: 15, then 16, then 17, each at its lowest place. The words are passed over again only if there is a 17.
+// Whether code may be run: 15, then 16, then 17, each at its lowest place. The words are passed over again only if there
+// is a 17.
 pub fn check_code(code: &[u8]) -> Checked
     ensures { ChecksCode code.now result }
 {

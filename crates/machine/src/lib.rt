@@ -35,20 +35,21 @@ pub fn record_with(flags: u32, outputs: u16, clock: u32) -> Record
     }
 }
 
-// The machine between two words. What is put aside stands in base 4, the last one in the lowest digit: 2 for AND(, 1 for a true result.
+// The machine between two words. What is put aside stands in base 4, the last one in the lowest digit: 2 for AND(, 1 for a
+// true result.
 #[derive(Clone, Copy, Debug, PartialEq, Eq)]
 struct Midway {
+    record: Record,
     at: usize,
     result: bool,
     aside: u32,
-    record: Record,
 }
 
 impl Midway {
     // AND( and OR(: one more digit.
     fn put_aside(&mut self, and: bool)
         requires { self.old.aside < 65536 }
-        ensures { self.new ≡ record self.old { aside = self.old.aside * 4 + 2 * bool_byte and + bool_byte self.old.result } }
+        ensures { let m = self.old in self.new ≡ record m { aside = m.aside * 4 + 2 * bool_byte and + bool_byte m.result } }
     {
         self.aside = self.aside * 4 + 2 * (and as u32) + (self.result as u32);
     }
@@ -56,7 +57,7 @@ impl Midway {
     // ): the lowest digit is joined with the result and taken off.
     #[tactic(auto, unfolding(crate::specs::inside::Midway::join_top))]
     fn join(&mut self)
-        ensures { self.new ≡ record self.old { result = join_top (self.old.aside % 4) self.old.result; aside = self.old.aside / 4 } }
+        ensures { let m = self.old in self.new ≡ record m { result = join_top (m.aside % 4) m.result; aside = m.aside / 4 } }
     {
         let top = self.aside % 4;
         let kept = top % 2 == 1;
@@ -74,26 +75,33 @@ impl Midway {
         requires { i < 32 }
         ensures { let m = self.old in self.new ≡ record m { «record» = record_of (flag_to m.result (mach_in m) i on) } }
     {
-        if self.result {
-            self.record.flags = bits::put_bit(self.record.flags, i, on);
-        }
+        let flags = self.record.flags;
+        self.record.flags = if self.result {
+            bits::put_bit(flags, i, on)
+        } else {
+            flags
+        };
     }
 
-    // RA and SA.
+    // RA and SA, in a word of 16 bits. One function for both words would be given the word and hand it back: no plainer.
     #[tactic(auto, unfolding(crate::specs::Machine::out_to))]
     fn output_to(&mut self, i: u32, on: bool)
         requires { i < 16 }
         ensures { let m = self.old in self.new ≡ record m { «record» = record_of (out_to m.result (mach_in m) i on) } }
     {
-        if self.result {
-            self.record.outputs = bits::put_bit(self.record.outputs as u32, i, on) as u16;
-        }
+        let outputs = self.record.outputs;
+        self.record.outputs = if self.result {
+            bits::put_bit(outputs as u32, i, on) as u16
+        } else {
+            outputs
+        };
     }
 
     // One word that is not END.
     fn step(&mut self, op: Op, arg: usize, inputs: u16)
         requires { Executable op self.old.at arg self.old.aside }
-        ensures { (st : List Frame) → self.old.aside ≡ enc st → Executes inputs (known (op_no op) arg) self.old self.new st }
+        ensures { let m = self.old in
+            (st : List Frame) → m.aside ≡ enc st → Executes inputs (known (op_no op) arg) m self.new st }
     {
         let bit = arg as u32;
         self.at += 1;
@@ -121,16 +129,17 @@ impl Midway {
     }
 }
 
-// The words from 0 to END. Each goes on to a later word, so that a scan is no longer than the code.
+// The words from 0 to END. In code that passed its check each word is known and goes on to a later one, so that a scan is
+// no longer than the code.
 fn execute(code: &[u8], inputs: u16, given: Record) -> Record
     requires { check_code code.now ≡ Ok tt }
     ensures { result ≡ record_of (exec inputs 0 (map decode (words code.now)) 0 (mach_of given) false [] 0).mach }
 {
     let mut m = Midway {
+        record: given,
         at: 0,
         result: false,
         aside: 0,
-        record: given,
     };
     loop {
         let op = words::op_at(code, m.at).unwrap();
@@ -143,21 +152,17 @@ fn execute(code: &[u8], inputs: u16, given: Record) -> Record
 }
 
 // One scan: refused code hands the record back as it was given.
+#[tactic(auto, unfolding(crate::specs::Run::run_code, crate::specs::Machine::run_scan))]
 pub fn run(code: &[u8], given: Record, inputs: u16, elapsed: u32) -> Ran
     ensures { Runs code.now given inputs elapsed result }
 {
     let verdict = faults::check_code(code);
-    match verdict {
+    let record = match verdict {
         Ok(()) => {
             let clock = clock::bring_forward(given.clock, elapsed);
-            Answered {
-                verdict,
-                record: execute(code, inputs, Record { clock, ..given }),
-            }
+            execute(code, inputs, Record { clock, ..given })
         }
-        Err(_) => Answered {
-            verdict,
-            record: given,
-        },
-    }
+        Err(_) => given,
+    };
+    Answered { verdict, record }
 }

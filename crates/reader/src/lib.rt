@@ -1,4 +1,4 @@
-// Reading a sheet: header, rows, transitions, and nothing more. Numbers 1 to 6, in reading order; the sheet is decoded once.
+// Reading a sheet: header, rows, transitions, and nothing more. Numbers 1 to 6, in reading order; it is decoded once.
 #![tactic(auto)]
 
 ghost use Rattle.std.specs.Prelude.{◌≡◌, ◌+◌, ◌≤◌, ◌<◌, length, take};
@@ -9,7 +9,7 @@ ghost use Rattle.bits.specs.inside.Told.{told};
 ghost use Rattle.condition.specs.inside.Reach.{cond_reach};
 ghost use Rattle.reader.specs.Reading.{read_header, row_at, transition_at, ends_at, read_sheet};
 ghost use Rattle.reader.specs.inside.Packing.{pack, unpack, Digits, arrow_reach};
-ghost use Rattle.reader.specs.inside.Decoding.{HoldsRows, pair_of, names_at, ArrowIs, rest_at, HoldsArrows, Answers};
+ghost use Rattle.reader.specs.inside.Decoding.{HoldsRows, pair_of, names_at, ArrowIs, rest_at, transitions_at, HoldsArrows, Answers};
 
 use answer::Refusal;
 use bits::{Cursor, Read};
@@ -36,7 +36,8 @@ pub struct Arrow {
     pub cond: usize,
 }
 
-// A sheet decoded once, in a place that the caller lends: its header, each state's outputs as a word, its arrows packed.
+// A sheet decoded once, in a place that the caller lends: its header, its states' outputs as words, its arrows packed.
+// That the header's counts fit stands at the methods: beside a ghost field the arrays could not be lent.
 #[derive(Drop)]
 pub struct Decoded {
     pub header: Header,
@@ -195,7 +196,8 @@ pub fn unpacked(w: u64) -> Arrow
     }
 }
 
-// The rest of a transition behind its two states: priority, wait and condition. The answer is the condition's; the arrow keeps the whole.
+// The rest of a transition behind its two states: priority, wait and condition. The answer is the condition's, which
+// document 01 has opened by `let .. else`; so the arrow that is lent keeps the whole.
 fn read_rest(
     s: &[u8],
     c: Cursor,
@@ -229,29 +231,28 @@ fn read_rest(
     read
 }
 
-// A transition of a sheet with n states and k inputs, which the arrow keeps.
-fn read_transition(s: &[u8], c: Cursor, n: u32, k: u32, arrow: &mut u64) -> Read<Facts>
+// A transition of the sheet, which the arrow keeps.
+fn read_transition(s: &[u8], c: Cursor, header: Header, arrow: &mut u64) -> Read<Facts>
     requires { c.at < arrow_reach }
-    ensures { ArrowIs s.now k (transition_at s.now n k c.at) result arrow.new }
+    ensures { ArrowIs s.now header.inputs (transition_at s.now header.states header.inputs c.at) result arrow.new }
 {
-    let ((source, destination), next) = read_names(s, c, n)?;
-    read_rest(s, next, k, source, destination, arrow)
+    let ((source, destination), next) = read_names(s, c, header.states)?;
+    read_rest(s, next, header.inputs, source, destination, arrow)
 }
 
-// As many transitions as there is room for.
+// As many transitions of the sheet as there is room for.
 fn read_transitions(
     s: &[u8],
     c: Cursor,
-    n: u32,
-    k: u32,
+    header: Header,
     arrows: &mut [u64],
 ) -> Result<Cursor, Refusal>
     requires { (c.at ≤ 1000) × (length arrows.old ≤ 128) }
-    ensures { HoldsArrows s.now k (upto (transition_at s.now n k) c.at (length arrows.old)) result arrows.new }
+    ensures { HoldsArrows s.now header.inputs (transitions_at s.now header c.at (length arrows.old)) result arrows.new }
 {
     let mut here = c;
     for arrow in arrows.iter_mut() {
-        let (_, next) = read_transition(s, here, n, k, arrow)?;
+        let (_, next) = read_transition(s, here, header, arrow)?;
         here = next;
     }
     Ok(here)
@@ -282,13 +283,11 @@ pub fn read_sheet(s: &[u8], decoded: &mut Decoded) -> Result<Cursor, Refusal>
     ensures { Answers s.now (read_sheet s.now) result decoded.new }
 {
     let (header, c1) = read_header(s)?;
-    let n = header.states;
-    let k = header.inputs;
-    let width = header.outputs as usize;
     decoded.header = header;
-    let c2 = read_rows(s, c1, width, &mut decoded.rows[..n as usize])?;
+    let rows = &mut decoded.rows[..header.states as usize];
+    let c2 = read_rows(s, c1, header.outputs as usize, rows)?;
     let arrows = &mut decoded.arrows[..header.transitions as usize];
-    let c3 = read_transitions(s, c2, n, k, arrows)?;
+    let c3 = read_transitions(s, c2, header, arrows)?;
     if ends_here(s, c3) {
         return Ok(c3);
     }

@@ -1,6 +1,6 @@
 -- Laws of a scan on a sheet that was opened. Assumes nothing.
-use Rattle.std.specs.Prelude.{Err}
-use mathlib.Core.Path.{◌≡◌, refl, sym, ◌∙◌, subst}
+use Rattle.std.specs.Prelude.{Err, Some, None}
+use mathlib.Core.Path.{◌≡◌, refl, ap, ◌∙◌}
 use mathlib.Core.Bool.{true}
 use mathlib.Core.List.{List}
 use Prim.Native.Nat.{ℕ, ◌≤◌, ◌<◌}
@@ -9,21 +9,18 @@ use borrow.Author.Tests.{lt-ltb, le-ltb}
 use lib.ListN.{get_or}
 use Rattle.answer.specs.declared.Refusal.{Refusal}
 use Rattle.answer.specs.declared.Refusal.TheVariants.{NoState}
-use Rattle.bits.specs.Word.{word_of}
-use Rattle.reader.specs.Sheet.{Transition, row_of, transition_of}
-use Rattle.reader.specs.inside.Packing.{arrow_at}
-use Rattle.reader.specs.inside.Decoding.{Holds}
+use Rattle.clock.specs.Onward.{onward}
+use Rattle.reader.specs.Sheet.{Transition}
 use Rattle.sheet.specs.Judging.{check_sheet}
 use Rattle.sheet.specs.inside.Opening.{Good}
-use Rattle.sheet.specs.declared.Opened.{Opened}
+use Rattle.reader.specs.declared.Decoded.{Decoded}
 use Rattle.sheet.proofs.WithLaws.{with-refused, with-accepted}
 use Rattle.format.specs.Fields.{WellFormed}
 use Rattle.format.proofs.Format.{read_formed}
 use Rattle.scan.specs.Scan.{Choice, none, some, can, best, outputs_of, state_with, after, scan_of, cold_of, accepted, refused, zeros, scan_sheet, cold_scan}
-use Rattle.scan.specs.inside.Picking.{Picks, Inside, moved_of}
+use Rattle.scan.specs.inside.Picking.{Picks}
 use Rattle.scan.specs.declared.State.{State}
-use Rattle.scan.specs.declared.Pick.{Pick}
-use Rattle.scan.specs.declared.Pick.TheVariants as pick
+use Rattle.scan.specs.declared.Best.{Best}
 use Rattle.scan.proofs.AllLaws.{all_of}
 use Rattle.scan.proofs.ChoiceLaws.{OnChoice, best-on}
 
@@ -36,9 +33,9 @@ pub cold-refused : (s : List ℕ) (why : Refusal) → check_sheet s ≡ Err why 
 unfolding cold_scan
 cold-refused s why e = with-refused s why (refused zeros) _ e
 
-module _ (s : List ℕ) (o : Opened) (rows arrows : List ℕ) (g : Good s o rows arrows) where
+module _ (s : List ℕ) (d : Decoded) (g : Good s d) where
   -- an accepted sheet, and a state that it has or has not
-  pub scan_accepted : (q : State) (word elapsed : ℕ) → q.state < g.sheet.states → scan_sheet s q word elapsed ≡ accepted (scan_of g.sheet q word elapsed)
+  scan_accepted : (q : State) (word elapsed : ℕ) → q.state < g.sheet.states → scan_sheet s q word elapsed ≡ accepted (scan_of g.sheet q word elapsed)
   unfolding scan_sheet
   scan_accepted q word elapsed l =
       with-accepted s g.sheet g.end (refused q) _ g.read g.judged ∙ rw (lt-ltb q.state g.sheet.states l)
@@ -48,7 +45,7 @@ module _ (s : List ℕ) (o : Opened) (rows arrows : List ℕ) (g : Good s o rows
   scan-no-state q word elapsed l =
       with-accepted s g.sheet g.end (refused q) _ g.read g.judged ∙ rw (le-ltb q.state g.sheet.states l)
 
-  pub cold-accepted : cold_scan s ≡ accepted (cold_of g.sheet)
+  cold-accepted : cold_scan s ≡ accepted (cold_of g.sheet)
   unfolding cold_scan
   cold-accepted = with-accepted s g.sheet g.end (refused zeros) _ g.read g.judged
 
@@ -61,36 +58,36 @@ module _ (s : List ℕ) (o : Opened) (rows arrows : List ℕ) (g : Good s o rows
       best-on active word clock (λ t. t.destination < g.sheet.states) g.sheet.transitions
       (all_of (λ t. t.destination < g.sheet.states) g.sheet.transitions (λ i l. (formed.fields i l).destination))
 
-  inside-by : (n : ℕ) (Q : Transition → Type 0) (p : Pick) (ch : Choice) → n ≤ 32 → Picks p ch → OnChoice (λ t. (t.destination < n) × Q t) ch → Inside p
-  inside-by n Q pick.Nothing ch few h on = tt
-  inside-by n Q (pick.Best a d) none few h on = absurd h
-  inside-by n Q (pick.Best a d) (some t) few h on = omega (arith, h.1, on.0)
+  inside-by : (n : ℕ) (Q : Transition → Type 0) (b : Best) (ch : Choice) → Picks (Some b) ch → OnChoice (λ t. (t.destination < n) × Q t) ch → b.destination < n
+  inside-by n Q b none h on = absurd h
+  inside-by n Q b (some t) h on = omega (arith, h.1, on.0)
 
-  pub inside : (active word clock : ℕ) (p : Pick) → Picks p (best active word clock g.sheet.transitions) → Inside p
-  inside active word clock p h = inside-by g.sheet.states _ p _ formed.states.1 h (chosen active word clock)
+  pub inside : (active word clock : ℕ) (b : Best) → Picks (Some b) (best active word clock g.sheet.transitions) → b.destination < g.sheet.states
+  inside active word clock b h = inside-by g.sheet.states _ b _ h (chosen active word clock)
 
-  moved_by : (Q : Transition → Type 0) (rows : List ℕ) (q : State) (clock : ℕ) (p : Pick) (ch : Choice) → Picks p ch
-      → OnChoice (λ t. (t.destination < g.sheet.states) × Q t) ch
-      → ((i : ℕ) → i < g.sheet.states → get_or rows i 0 ≡ word_of (row_of g.sheet i))
-      → moved_of rows q clock p ≡ after g.sheet q clock ch
+  stays : (q : State) (clock : ℕ) (ch : Choice) → Picks None ch → after g.sheet q clock ch ≡ state_with q.state q.outputs clock
+  unfolding after
+  stays q clock none h = refl
+  stays q clock (some t) h = absurd h
+
+  moves : (q : State) (clock : ℕ) (b : Best) (ch : Choice) → b.destination < g.sheet.states → Picks (Some b) ch
+      → after g.sheet q clock ch ≡ state_with b.destination (get_or d.rows b.destination 0) 0
   unfolding after outputs_of
-  moved_by Q rows q clock pick.Nothing none h on r = refl
-  moved_by Q rows q clock pick.Nothing (some t) h on r = absurd h
-  moved_by Q rows q clock (pick.Best a d) none h on r = absurd h
-  moved_by Q rows q clock (pick.Best a d) (some t) h on r = rw (h.1, r t.destination on.0) refl
+  moves q clock b none l h = absurd h
+  moves q clock b (some t) l h = rw (← h.1, g.copy.row b.destination l) refl
 
   -- the record that the code makes is the scan's
-  pub moved-is : (q : State) (word clock : ℕ) (p : Pick) → Picks p (best q.state word clock g.sheet.transitions)
-      → moved_of rows q clock p ≡ after g.sheet q clock (best q.state word clock g.sheet.transitions)
-  moved-is q word clock p h = moved_by _ rows q clock p _ h (chosen q.state word clock) g.copy.row
+  module _ (q : State) (word elapsed clock w : ℕ) (low : q.state < g.sheet.states) (on : clock ≡ onward q.clock elapsed) (same : w ≡ word) where
+    pub scan-stays : Picks None (best q.state w clock g.sheet.transitions) → scan_sheet s q word elapsed ≡ accepted (state_with q.state q.outputs clock)
+    unfolding scan_of
+    scan-stays h = scan_accepted q word elapsed low ∙ ap accepted (rw (← on, ← same) (stays q clock _ h))
 
-  -- each arrow of the copy holds its transition
-  pub arrows-hold : (i : ℕ) → i < o.decoded.transitions → Holds s o.decoded.inputs (arrow_at arrows i) (transition_of g.sheet i)
-  arrows-hold i l =
-      subst (λ (k : ℕ). Holds s k (arrow_at arrows i) (transition_of g.sheet i)) (sym g.copy.inputs)
-      (g.copy.arrow i (omega (arith, g.copy.transitions)))
+    pub scan-moves : (b : Best) → Picks (Some b) (best q.state w clock g.sheet.transitions)
+        → scan_sheet s q word elapsed ≡ accepted (state_with b.destination (get_or d.rows b.destination 0) 0)
+    unfolding scan_of
+    scan-moves b h = scan_accepted q word elapsed low ∙ ap accepted (rw (← on, ← same) (moves q clock b _ (inside q.state w clock b h) h))
 
   -- the record that the code starts with is the cold one
-  pub cold_is : cold_scan s ≡ accepted (state_with 0 (get_or rows 0 0) 0)
+  pub cold_is : cold_scan s ≡ accepted (state_with 0 (get_or d.rows 0 0) 0)
   unfolding cold_of outputs_of
   cold_is = cold-accepted ∙ rw (g.copy.row 0 (omega (arith, formed.states.0))) refl

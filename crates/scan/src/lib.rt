@@ -1,23 +1,20 @@
 // The reference scan: one scan that works from the sheet, and its cold start.
 #![tactic(auto)]
 
-ghost use Rattle.std.specs.Prelude.{◌≡◌, List, ℕ, ◌≤◌, ◌<◌, length, get_or};
+ghost use Rattle.std.specs.Prelude.{◌≡◌, ◌<◌};
 ghost use Rattle.condition.specs.inside.Reach.{cond_reach};
-ghost use Rattle.reader.specs.Sheet.{Transition, no_transition};
-ghost use Rattle.reader.specs.inside.Packing.{arrow_at};
-ghost use Rattle.reader.specs.inside.Decoding.{Holds};
-ghost use Rattle.sheet.specs.inside.Opening.{Opens};
-ghost use Rattle.scan.specs.Scan.{can, best, state_with, scanned_with, scan_sheet, Scans, ColdScans};
-ghost use Rattle.scan.specs.inside.Picking.{Picks, took_of, Inside, moved_of};
+ghost use Rattle.reader.specs.Sheet.{Transition, Sheet};
+ghost use Rattle.reader.specs.inside.Decoding.{Holds, Copy};
+ghost use Rattle.sheet.specs.inside.Opening.{Good};
+ghost use Rattle.scan.specs.Scan.{can, best, state_with, scan_sheet, zeros, cold_scan, Scans, ColdScans};
+ghost use Rattle.scan.specs.inside.Picking.{Picks, took_of, answered_of};
 
 use answer::{Answered, Refusal};
 use bits::Cursor;
-use condition::CondRead;
-use reader::Arrow;
-use sheet::Opened;
+use reader::{Arrow, Decoded};
 
 // The reference's record: the active state, its outputs (output a has weight 2^a) and the clock.
-#[derive(Clone, Copy)]
+#[derive(Clone, Copy, Debug, PartialEq, Eq)]
 pub struct State {
     pub state: u8,
     pub outputs: u16,
@@ -27,159 +24,125 @@ pub struct State {
 // A scan's answer: where it is refused, the record is the one that was given.
 pub type Scanned = Answered<State>;
 
-// The one builder of a record, and of a scan's answer.
+// The one builder of a record.
 pub fn state_with(state: u8, outputs: u16, clock: u32) -> State
     ensures { result ≡ state_with state outputs clock }
 {
     State {
-        state: state,
-        outputs: outputs,
-        clock: clock,
+        state,
+        outputs,
+        clock,
     }
 }
 
-fn scanned_with(verdict: Checked, record: State) -> Scanned
-    ensures { result ≡ scanned_with verdict «record» }
+// What a scan answers whose next record is this, or which is refused.
+fn answered(next: Result<State, Refusal>, given: State) -> Scanned
+    ensures { result ≡ answered_of next given }
 {
-    Scanned {
-        verdict: verdict,
-        record: record,
-    }
-}
-
-// The best transition met so far, if one was met.
-#[derive(Clone, Copy)]
-pub enum Pick {
-    Nothing,
-    Best(u8, u8),
-}
-
-// Whether the arrow's transition can fire: its condition is judged straight from the sheet's bits, and only if its source is the active state.
-fn can_fire(s: &[u8], arrow: Arrow, k: u32, active: u8, word: u32, clock: u32) -> bool
-    requires { arrow.cond < cond_reach }
-    ensures { (t : Transition) → Holds s.now k arrow t → result ≡ can active word clock t }
-{
-    if arrow.source != active {
-        return false;
-    }
-    let c = Cursor { at: arrow.cond };
-    let a = condition::read_condition(s, c, k, 8, 0, word);
-    let CondRead::Next(_, f) = a else {
-        return false;
-    };
-    f.value & (arrow.wait <= clock)
-}
-
-// The one with the smaller priority number; the earlier where they are equal.
-fn took(p: Pick, arrow: Arrow) -> Pick
-    ensures { result ≡ took_of p arrow }
-{
-    match p {
-        Pick::Nothing => Pick::Best(arrow.priority, arrow.destination),
-        Pick::Best(priority, _) => if priority <= arrow.priority {
-            p
-        } else {
-            Pick::Best(arrow.priority, arrow.destination)
+    match next {
+        Ok(record) => Answered {
+            verdict: Ok(()),
+            record,
+        },
+        Err(why) => Answered {
+            verdict: Err(why),
+            record: given,
         },
     }
 }
 
-// Of the m transitions, the one that fires.
-fn choose(
-    s: &[u8],
-    arrows: &[u64; 128],
-    m: usize,
-    k: u32,
-    active: u8,
-    word: u32,
-    clock: u32,
-) -> Pick
-    requires { (m ≤ 128) × ((i : ℕ) → i < m → (arrow_at arrows.now i).cond < cond_reach) }
-    ensures { (ts : List Transition) → length ts ≡ m → ((i : ℕ) → i < m → Holds s.now k (arrow_at arrows.now i) (get_or ts i no_transition)) → Picks result (best active word clock ts) }
+// The best transition met so far.
+#[derive(Clone, Copy, Debug, PartialEq, Eq)]
+struct Best {
+    priority: u8,
+    destination: u8,
+}
+
+// Whether the arrow's transition can fire: its condition is judged straight from the sheet's bits, and only if its source
+// is the active state.
+fn can_fire(sheet: &[u8], arrow: Arrow, inputs: u32, now: State, word: u32) -> bool
+    requires { arrow.cond < cond_reach }
+    ensures { (t : Transition) → Holds sheet.now inputs arrow t → result ≡ can now.state word now.clock t }
 {
-    let mut best = Pick::Nothing;
-    let mut i: usize = 0;
-    while i < m {
-        let arrow = reader::unpacked(arrows[i]);
-        if can_fire(s, arrow, k, active, word, clock) {
-            best = took(best, arrow);
+    if arrow.source != now.state {
+        return false;
+    }
+    let start = Cursor { at: arrow.cond };
+    let Ok((facts, _)) = condition::read_condition(sheet, start, inputs, 8, 0, word) else {
+        return false;
+    };
+    facts.value && arrow.wait <= now.clock
+}
+
+// The one with the smaller priority number; the earlier where they are equal.
+fn took(best: Option<Best>, arrow: Arrow) -> Best
+    ensures { result ≡ took_of best arrow }
+{
+    match best {
+        Some(met) if met.priority <= arrow.priority => met,
+        _ => Best {
+            priority: arrow.priority,
+            destination: arrow.destination,
+        },
+    }
+}
+
+// Of the sheet's transitions, the one that fires.
+fn choose(sheet: &[u8], decoded: &Decoded, now: State, word: u32) -> Option<Best>
+    requires { Good sheet.now decoded.now }
+    ensures { (a : Sheet) → Copy sheet.now decoded.now a → Picks result (best now.state word now.clock a.transitions) }
+{
+    let mut best = None;
+    for w in decoded.arrows() {
+        let arrow = reader::unpacked(*w);
+        if can_fire(sheet, arrow, decoded.header.inputs, now, word) {
+            best = Some(took(best, arrow));
         }
-        i += 1;
     }
     best
 }
 
-// The record after a scan that brought the clock forward and chose p.
-fn moved(rows: &[u16; 32], record: State, clock: u32, p: Pick) -> State
-    requires { Inside p }
-    ensures { result ≡ moved_of rows.now «record» clock p }
+// The record after one scan.
+fn scanned(sheet: &[u8], record: State, inputs: u16, elapsed: u32) -> Result<State, Refusal>
+    ensures { answered_of result «record» ≡ scan_sheet sheet.now «record» inputs elapsed }
 {
-    match p {
-        Pick::Nothing => state_with(record.state, record.outputs, clock),
-        Pick::Best(_, destination) => {
-            let outputs = rows[destination as usize];
-            state_with(destination, outputs, 0)
+    let mut decoded = Decoded::empty();
+    sheet::open_sheet(sheet, &mut decoded)?;
+    if decoded.header.states <= u32::from(record.state) {
+        return Err(Refusal::NoState(record.state as usize));
+    }
+    let now = State {
+        clock: clock::bring_forward(record.clock, elapsed),
+        ..record
+    };
+    match choose(sheet, &decoded, now, u32::from(inputs)) {
+        None => Ok(now),
+        Some(best) => {
+            let outputs = decoded.rows[best.destination as usize];
+            Ok(state_with(best.destination, outputs, 0))
         }
     }
 }
 
-// A scan on a sheet that was opened.
-fn scan_opened(
-    sheet: &[u8],
-    o: Opened,
-    rows: &[u16; 32],
-    arrows: &[u64; 128],
-    record: State,
-    inputs: u16,
-    elapsed: u32,
-) -> Scanned
-    requires { Opens sheet.now o rows.now arrows.now }
-    ensures { result ≡ scan_sheet sheet.now «record» inputs elapsed }
+// The record of the cold start.
+fn cold(sheet: &[u8]) -> Result<State, Refusal>
+    ensures { answered_of result zeros ≡ cold_scan sheet.now }
 {
-    let verdict = o.verdict;
-    match verdict {
-        Err(why) => scanned_with(Err(why), record),
-        Ok(()) => {
-            let d = o.decoded;
-            let active = record.state;
-            if d.states <= active as u32 {
-                return scanned_with(Err(Refusal::NoState(active as usize)), record);
-            }
-            let clock = clock::bring_forward(record.clock, elapsed);
-            let p = choose(
-                sheet,
-                arrows,
-                d.transitions,
-                d.inputs,
-                active,
-                inputs as u32,
-                clock,
-            );
-            scanned_with(Ok(()), moved(rows, record, clock, p))
-        }
-    }
+    let mut decoded = Decoded::empty();
+    sheet::open_sheet(sheet, &mut decoded)?;
+    Ok(state_with(0, decoded.rows[0], 0))
 }
 
 // One scan of the reference, on any byte string, record, input word and elapsed time.
 pub fn scan(sheet: &[u8], record: State, inputs: u16, elapsed: u32) -> Scanned
     ensures { Scans sheet.now «record» inputs elapsed result }
 {
-    let mut rows = [0u16; 32];
-    let mut arrows = [0u64; 128];
-    let o = sheet::open_sheet(sheet, &mut rows, &mut arrows);
-    scan_opened(sheet, o, &rows, &arrows, record, inputs, elapsed)
+    answered(scanned(sheet, record, inputs, elapsed), record)
 }
 
 // The reference's cold start, on any byte string.
 pub fn cold_scan(sheet: &[u8]) -> Scanned
     ensures { ColdScans sheet.now result }
 {
-    let mut rows = [0u16; 32];
-    let mut arrows = [0u64; 128];
-    let o = sheet::open_sheet(sheet, &mut rows, &mut arrows);
-    let verdict = o.verdict;
-    match verdict {
-        Err(why) => scanned_with(Err(why), state_with(0, 0, 0)),
-        Ok(()) => scanned_with(Ok(()), state_with(0, rows[0], 0)),
-    }
+    answered(cold(sheet), state_with(0, 0, 0))
 }

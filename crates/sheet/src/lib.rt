@@ -1,13 +1,13 @@
 // The rules of a sheet: numbers 7 to 13, and the check that answers every byte string.
 #![tactic(auto)]
 
-ghost use Rattle.std.specs.Prelude.{◌≡◌, List, ℕ, ◌≤◌, length, Ok};
-ghost use Rattle.answer.specs.declared.Refusal.{Refusal};
-ghost use Rattle.answer.specs.Lowest.{first_below, refuse_at};
+ghost use Rattle.std.specs.Prelude.{◌≡◌, List, ℕ, ◌≤◌, length};
+ghost use Rattle.answer.specs.Lowest.{first_below};
 ghost use Rattle.reader.specs.Sheet.{Sheet};
 ghost use Rattle.reader.specs.inside.Decoding.{Copy};
 ghost use Rattle.sheet.specs.Judging.{judge, ChecksSheet};
-ghost use Rattle.sheet.specs.inside.Arrows.{breaks_arrow, first_break, key_of, first_alike, first_clash, Homes, lacks_home_arrow, activity_row};
+ghost use Rattle.sheet.specs.inside.Arrows.{Refuses, breaks_arrow, first_break, key_of, first_alike, first_clash};
+ghost use Rattle.sheet.specs.inside.Arrows.{Homes, lacks_home_arrow, activity_row};
 ghost use Rattle.sheet.specs.inside.Opening.{Opens};
 
 use answer::{Checked, Refusal};
@@ -52,7 +52,8 @@ fn first_arrow(arrows: &[u64], rule: Rule) -> Option<usize>
         .position(|w| breaks(rule, reader::unpacked(*w)))
 }
 
-// A transition's key: two of them are equal where the sources are and, for PAIR the destinations, for RANK the priorities.
+// A transition's key: two of them are equal where the sources are and, for PAIR the destinations, for RANK the
+// priorities.
 fn key(clash: Clash, t: Arrow) -> u16
     ensures { result ≡ key_of clash t }
 {
@@ -135,7 +136,7 @@ fn first_activity(rows: &[u16]) -> Option<usize>
 // Refuses at what was found.
 fn refuse<F: FnOnce(usize) -> Refusal>(found: Option<usize>, why: F) -> Checked
     requires { F.IsAlwaysCallable why }
-    ensures { (f : ℕ → Refusal) → ((i : ℕ) (r : Refusal) → F.post why i r → r ≡ f i) → result ≡ refuse_at f found (Ok tt) }
+    ensures { Refuses (F.post why) found result }
 {
     match found {
         Some(i) => Err(why(i)),

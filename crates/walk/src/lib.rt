@@ -1,4 +1,5 @@
-// A condition that stands in the bits of a sheet, walked in the order in which it is computed: one item after the other, with no nested call.
+// A condition that stands in the bits of a sheet, walked in the order in which it is computed: one item after the
+// other, with no nested call.
 #![tactic(auto)]
 
 ghost use Rattle.std.specs.Prelude.{◌≡◌, ◌<◌, List, false};

@@ -4,8 +4,8 @@ use Rattle.words.specs.declared.Op.{Op}
 use Rattle.words.specs.declared.Op.TheVariants as op
 use Rattle.words.specs.declared.UnknownCode.{UnknownCode}
 
--- "8 bits of code": "0 END; 1 LDS flag; 2 LDI input; 3 NOT; 4 AND(; 5 OR(; 6 ); 7 ANDT ms; 8 R flag; 9 S flag; 10 RA output; 11 SA output;
--- 12 JMPC word; 13 JMP word; 14 TRES."
+-- "8 bits of code": "0 END; 1 LDS flag; 2 LDI input; 3 NOT; 4 AND(; 5 OR(; 6 ); 7 ANDT ms; 8 R flag; 9 S flag;
+-- 10 RA output; 11 SA output; 12 JMPC word; 13 JMP word; 14 TRES."
 abbrev pub op_no : Op → ℕ
 op_no op.End = 0
 op_no op.Lds = 1

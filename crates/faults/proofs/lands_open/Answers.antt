@@ -5,11 +5,12 @@ use mathlib.Core.List.{map}
 use Prim.Native.Nat.{◌+◌, ◌/◌, ◌%◌, ◌<◌}
 use native.Mathlib.Omega.{arith}
 use lib.ListN.{length, get_or}
+use Rattle.words.specs.Op.{op_no}
 use Rattle.words.specs.Word.{decode, words}
 use Rattle.words.proofs.WordLaws.{words-length, known-end}
 use Rattle.faults.specs.Check.{lands_open}
 use Rattle.faults.specs.inside.Marks.{jumps}
-use Rattle.faults.proofs.CheckLaws.{sound-from, jump-code, lands-code, lands-other, jumps-both}
+use Rattle.faults.proofs.CheckLaws.{sound-from, jump-code, lands-code, jumps-both, jumps-other}
 use Rattle.faults.proofs.lands_open.Goals as goal
 use Rattle.faults.proofs.lands_open.Goals.{After-operand}
 
@@ -59,4 +60,5 @@ unfolding decode
 returns-in_default-op c =
     let ws = words c.args.code.now in
     let w = get_or ws c.args.at 0 in
-    rw (c.in-Ok.ensures.of_word, lands-other (map decode ws) c.in-Ok.op (w % 16777216) c.in_default-op.not-Jmpc c.in_default-op.not-Jmp) refl
+    let other = jumps-other c.in-Ok.op c.in_default-op.not-Jmpc c.in_default-op.not-Jmp in
+    rw (c.in-Ok.ensures.of_word, lands-code (map decode ws) (op_no c.in-Ok.op) (w % 16777216), other) refl

@@ -1,36 +1,33 @@
 -- `faults::one_pass` meets its contract. At each turn the search from here finds what the whole search finds, and the targets of the
 -- jumps passed by are marked. Assumes nothing.
-use mathlib.Core.Path.{◌≡◌, refl, sym, ap, ◌∙◌}
-use mathlib.Core.Bool.{◌&&◌, ◌||◌}
+use mathlib.Core.Path.{◌≡◌, refl, sym, ◌∙◌}
+use mathlib.Core.Bool.{true, ◌&&◌, ◌||◌}
 use mathlib.Core.List.{List}
-use Prim.Native.Nat.{ℕ, ◌+◌, ◌*◌, ◌/◌}
+use Prim.Native.Nat.{ℕ, ◌+◌, ◌*◌, ◌/◌, ◌%◌}
 use native.Mathlib.Omega.{arith}
 use borrow.Author.Tests.{lt-ltb, le-ltb}
 use lib.Dec.{ltb}
 use lib.ListN.{length, get_or}
 use Rattle.std.specs.declared.option.Option.{Option}
-use Rattle.faults.specs.declared.After.TheVariants.{Open}
 use Rattle.words.specs.Word.{decode, words}
 use Rattle.words.proofs.WordLaws.{words-length}
 use Rattle.faults.specs.Check.{opens, faulty, unknown, first_fault}
-use Rattle.faults.specs.inside.Marks.{marked, jumps, stepped}
-use Rattle.faults.proofs.FaultLaws.{looking-start, looking-jump, looking-open, looking-target, looking-hit, looking-unknown, looking-end, looking-sound, met-now, met-not}
-use Rattle.faults.proofs.one_pass.Goals.{After-after_word, Joined-d-gt0, then-d-gt0+then-has, else-d-gt0, else-d-gt0-via-then-d-gt0+else-has, else-d-gt0-via-else-d-gt0, in-Jump, in-Open}
+use Rattle.faults.specs.inside.Marks.{marked, noted, jumps}
+use Rattle.faults.proofs.CheckLaws.{jumps-both, jumps-other}
+use Rattle.faults.proofs.FaultLaws.{looking-start, looking-on, looking-target, looking-hit, looking-unknown, looking-end, looking-sound, met-now, met-not}
+use Rattle.faults.proofs.one_pass.Goals.{After-faulty, Joined-d-gt0, Joined-op, in-Jmpc, in_default-op, then-d-gt0+then-has, else-d-gt0, else-d-gt0-via-then-d-gt0+else-has, else-d-gt0-via-else-d-gt0}
 use Rattle.faults.proofs.one_pass.Goals as goal
 
 -- what the test of the word says, in the terms of the definition
-tested : (c : After-after_word) →
+tested : (c : After-faulty) →
     let l = c.loop-at in
     let w = get_or (words c.args.code.now) l.at 0 in
-    c.after_word.result
-    ≡ stepped (unknown w || faulty (length c.args.code.now / 4) l.at l.d (decode w)) (jumps (w / 16777216)) (opens (decode w) l.d)
-unfolding decode
+    c.faulty.result ≡ (unknown w || faulty (length c.args.code.now / 4) l.at l.d (decode w))
 tested c =
     let w = get_or (words c.args.code.now) c.loop-at.at 0 in
-    let op = c.in-Ok.ensures.of_word in
     let arg = c.operand-arg.ensures in
     let whole : w / 16777216 * 16777216 + c.operand-arg.result ≡ w = omega (arith, arg.0) in
-    rw (← op, whole, arg.0) at c.after_word.ensures
+    rw (← c.in-Ok.ensures.of_word, whole) at c.faulty.ensures
 
 -- whether a landing was met
 met : (c : Joined-d-gt0) →
@@ -60,47 +57,55 @@ returns-in_default c =
     let s = c.args.code.now in (
       l.at,
       refl,
-      found s (looking-unknown (words s) _ l.targets.bits l.landing l.at l.d (sym (words-length s)) l.targets.full l.invariant (omega arith) c.in_default.ensures.of_word.1),
+      found s (looking-unknown (sym (words-length s)) l.targets.full l.invariant (omega arith) c.in_default.ensures.of_word.1),
     )
 
-pub returns-in-Fault : goal.returns-in-Fault
-returns-in-Fault c =
+pub returns-then-faulty : goal.returns-then-faulty
+returns-then-faulty c =
     let l = c.loop-at in
     let s = c.args.code.now in (
       l.at,
       refl,
-      found s (looking-hit (words s) _ l.targets.bits l.landing l.at l.d (sym (words-length s)) l.targets.full l.invariant (omega arith)
-          (sym (tested (goal.at.returns-in-Fault c).After-after_word) ∙ c.in-Fault.is)),
+      found s (looking-hit (sym (words-length s)) l.targets.full l.invariant (omega arith)
+          (sym (tested (goal.at.returns-then-faulty c).After-faulty) ∙ c.if-faulty.true)),
     )
+
+-- the target of a jump is marked
+aims : (c : Joined-op) →
+    let w = get_or (words c.args.code.now) c.loop-at.at 0 in
+    c.match-op.targets.bits ≡ noted (jumps (w / 16777216)) c.loop-at.targets.bits (w % 16777216)
+unfolding noted
+aims c =
+    elim c.match-op.branch [
+      | in-Jmpc v ↦
+          rw (v.targets-is, v.mark.ensures, c.operand-arg.ensures.0, c.in-Ok.ensures.of_word, jumps-both c.in-Ok.op v.in-Jmpc.is) refl
+      | in_default-op v ↦
+          rw (v.targets-is, c.in-Ok.ensures.of_word, jumps-other c.in-Ok.op v.in_default-op.not-Jmpc v.in_default-op.not-Jmp) refl
+    ]
 
 pub mark-requires : goal.mark-requires
 mark-requires c =
     let l = c.loop-at in
     let s = c.args.code.now in
-    let jump = sym (tested (goal.at.mark-requires c).After-after_word) ∙ c.in-Jump.is in
-    omega (arith, looking-target (words s) _ l.targets.bits l.landing l.at l.d (sym (words-length s)) l.targets.full l.invariant jump, c.operand-arg.ensures.0)
+    let sound = sym (tested (goal.at.mark-requires c).After-faulty) ∙ c.if-faulty.false in
+    let jump : jumps (get_or (words s) l.at 0 / 16777216) ≡ true = rw c.in-Ok.ensures.of_word (jumps-both c.in-Ok.op c.in-Jmpc.is) in
+    omega (arith, looking-target (sym (words-length s)) l.targets.full l.invariant sound jump, c.operand-arg.ensures.0)
 
 pub loop-at-preserved : goal.loop-at-preserved
+unfolding decode
 loop-at-preserved c =
     let l = c.loop-at in
     let s = c.args.code.now in
-    let told = tested (goal.at.loop-at-preserved c).After-after_word in
-    let landing = met (goal.at.loop-at-preserved c).Joined-d-gt0 in
-    elim c.match-after_word.branch [
-      | in-Jump w ↦
-          looking-jump (words s) _ l.targets.bits l.landing l.at l.d (sym (words-length s)) l.targets.full l.invariant (omega arith) (omega arith)
-          (sym told ∙ w.in-Jump.is) w.d-is landing
-          (rw (w.targets-is, w.mark.ensures, c.operand-arg.ensures.0) refl)
-      | in-Open w ↦
-          rw w.targets-is
-          (looking-open (words s) _ l.targets.bits l.landing l.at l.d (sym (words-length s)) l.targets.full l.invariant (omega arith) (omega arith)
-          (sym told ∙ w.in-Open.is ∙ ap Open (sym w.d-is)) landing)
-    ]
+    let w = get_or (words s) l.at 0 in
+    let sound = sym (tested (goal.at.loop-at-preserved c).After-faulty) ∙ c.if-faulty.false in
+    let deeper : c.opened-d.result ≡ opens (decode w) l.d = c.opened-d.ensures (w % 16777216) ∙ rw c.in-Ok.ensures.of_word refl in
+    looking-on (sym (words-length s)) l.targets.full l.invariant (omega arith) (omega arith) sound deeper
+    (met (goal.at.loop-at-preserved c).Joined-d-gt0) (aims (goal.at.loop-at-preserved c).Joined-op)
 
 pub returns : goal.returns
 returns c =
     let l = c.loop-at in
     let s = c.args.code.now in (
-      found s (looking-end (words s) _ l.targets.bits l.landing l.at l.d (sym (words-length s)) l.targets.full l.invariant (omega arith)),
-      λ e. looking-sound (words s) _ l.targets.bits l.landing l.at l.d (sym (words-length s)) l.targets.full l.invariant (omega arith) e,
+      found s (looking-end (sym (words-length s)) l.targets.full l.invariant (omega arith)),
+      λ e. looking-sound (sym (words-length s)) l.targets.full l.invariant (omega arith) e,
     )

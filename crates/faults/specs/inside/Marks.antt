@@ -6,8 +6,6 @@ use Rattle.answer.specs.declared.Refusal.TheVariants as refuse
 use Rattle.bits.specs.Word.{get_bit, put_bit}
 use Rattle.words.specs.Word.{decode, words}
 use Rattle.faults.specs.Check.{first_fault, depth_at, first_landing}
-use Rattle.faults.specs.declared.After.{After}
-use Rattle.faults.specs.declared.After.TheVariants.{Fault, Jump, Open}
 
 -- the mark of word k is bit k % 32 of number k / 32
 unfoldable pub marked : List ℕ → ℕ → Bool
@@ -22,14 +20,8 @@ noted false marks k = marks
 abbrev pub jumps : ℕ → Bool
 jumps k = eqb k 12 || eqb k 13
 
--- what is told after a word: whether it is at fault, whether it is a jump, and the parentheses open after it
-abbrev pub stepped : Bool → Bool → ℕ → After
-stepped true jump d = Fault
-stepped false true d = Jump
-stepped false false d = Open d
-
--- what one pass tells is so: the first word at fault; or else, where it met no landing inside a parenthesis, that there is none. It tells no
--- place of one, and the search for the lowest needs only that no word is at fault.
+-- what one pass tells is so: the first word at fault; or else, where it met no landing inside a parenthesis, that there is
+-- none. It tells no place of one, and the search for the lowest needs only that no word is at fault.
 abbrev pub PassTells : List ℕ → Result Bool Refusal → Type 0
 PassTells s (Err why) = (k : ℕ) × (why ≡ refuse.Word k) × (first_fault (length (words s)) 0 0 (words s) ≡ Some k)
 PassTells s (Ok landing) =

@@ -28,7 +28,8 @@ loop-row-preserved c =
       omega (arith, row_next a.s.now a.width l.here.at x.1),
       l.invariant.1 ++ x.0 ∷ [],
       upto-more read a.c.at l.row-index l.invariant.2 x.1,
-      filled_more IsWord 0 [] l.rows l.invariant.1 l.row-index c.in_ok-word.word x.0 (omega arith) many l.invariant.3 x.2,
+      filled_more IsWord 0 [] l.rows l.invariant.1 l.row-index c.in_ok-word.word x.0 (omega arith) many l.invariant.3
+          x.2,
     )
 
 pub returns-in_err-word : goal.returns-in_err-word

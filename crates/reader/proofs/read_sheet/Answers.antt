@@ -30,8 +30,8 @@ returns-in_err-header c =
     let p = err_from_is_err_and c.from_residual.result c.from_residual.ensures.1 in
     rw (told-bad (λ (h : Header). h) (read_header c.args.s.now) _ (sym c.in_err-header.ensures), p.1, p.2) refl
 
-pub slice_bounds-read_rows-end : goal.slice_bounds-read_rows-end
-slice_bounds-read_rows-end c =
+pub slice_bounds-rows-end : goal.slice_bounds-rows-end
+slice_bounds-rows-end c =
     let f = header-fits c.args.s.now (header-got _ _ _ (sym c.in_ok-header.ensures)) in
     omega arith
 

@@ -11,18 +11,18 @@ pub returns-in_err-source : goal.returns-in_err-source
 returns-in_err-source c =
     let a = c.args in
     let p = err_from_is_err_and c.from_residual.result c.from_residual.ensures.1 in
-    let e = told-bad pair_of (names_at a.s.now a.n a.c.at) _ (sym c.in_err-source.ensures) in
-    rw (transition-is a.s.now a.n a.k a.c.at, e, p.1, p.2) refl
+    let e = told-bad pair_of (names_at a.s.now a.header.states a.c.at) _ (sym c.in_err-source.ensures) in
+    rw (transition-is a.s.now a.header.states a.header.inputs a.c.at, e, p.1, p.2) refl
 
 pub read_rest-requires : goal.read_rest-requires
 read_rest-requires c =
     let a = c.args in
-    let named = names-got (names_at a.s.now a.n a.c.at) _ _ _ (sym c.in_ok-source.ensures) in
-    let few = names-few a.s.now a.n a.c.at named in
-    omega (arith, few.0, few.1, names-next a.s.now a.n a.c.at named)
+    let named = names-got (names_at a.s.now a.header.states a.c.at) _ _ _ (sym c.in_ok-source.ensures) in
+    let few = names-few a.s.now a.header.states a.c.at named in
+    omega (arith, few.0, few.1, names-next a.s.now a.header.states a.c.at named)
 
 pub returns : goal.returns
 returns c =
     let a = c.args in
-    let named = names-got (names_at a.s.now a.n a.c.at) _ _ _ (sym c.in_ok-source.ensures) in
-    rw (transition-is a.s.now a.n a.k a.c.at, named) c.read_rest.ensures
+    let named = names-got (names_at a.s.now a.header.states a.c.at) _ _ _ (sym c.in_ok-source.ensures) in
+    rw (transition-is a.s.now a.header.states a.header.inputs a.c.at, named) c.read_rest.ensures

@@ -13,5 +13,5 @@ use Rattle.reader.proofs.read_transitions.Given as goal
 abbrev pub invariant-loop-arrow : goal.invariant-loop-arrow
 invariant-loop-arrow l =
     (l.here.at ≤ 1000 + 227 * l.arrow-index) × (ts : List Transition)
-    × (upto (transition_at l.s l.n l.k) l.initial.here.at l.arrow-index ≡ ok ts l.here.at)
-    × Filled (λ w t. Holds l.s l.k (unpack w) t) 0 no_transition l.arrows ts l.arrow-index
+    × (upto (transition_at l.s l.header.states l.header.inputs) l.initial.here.at l.arrow-index ≡ ok ts l.here.at)
+    × Filled (λ w t. Holds l.s l.header.inputs (unpack w) t) 0 no_transition l.arrows ts l.arrow-index

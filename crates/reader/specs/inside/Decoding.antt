@@ -4,7 +4,7 @@ use Rattle.std.specs.declared.result.Result.{Result}
 use Rattle.answer.specs.declared.Refusal.{Refusal}
 use Rattle.answer.specs.declared.Refusal.TheVariants as refuse
 use Rattle.bits.specs.Word.{word_of}
-use Rattle.bits.specs.Read.{Ans, ok, no, bind, guard, read_field}
+use Rattle.bits.specs.Read.{Ans, ok, no, bind, guard, read_field, upto}
 use Rattle.bits.specs.declared.Cursor.{Cursor}
 use Rattle.condition.specs.Cond.{word_count}
 use Rattle.condition.specs.Reading.{counted, condition_at}
@@ -12,7 +12,9 @@ use Rattle.condition.specs.inside.Reach.{cond_reach}
 use Rattle.condition.specs.inside.Facts.{form_of}
 use Rattle.condition.specs.declared.Facts.{Facts}
 use Rattle.reader.specs.Sheet.{Transition, Sheet, count, transition_of, row_of, no_transition}
+use Rattle.reader.specs.Reading.{transition_at}
 use Rattle.reader.specs.declared.Arrow.{Arrow}
+use Rattle.reader.specs.declared.Header.{Header}
 use Rattle.reader.specs.inside.Packing.{unpack, arrow_at}
 use Rattle.reader.specs.declared.Decoded.{Decoded}
 
@@ -34,6 +36,10 @@ rest_at s k source destination at =
     bind (read_field s 24 a1) λ wait a2.
     bind (condition_at s k a2) λ t a3.
     ok (record { source = source; destination = destination; priority = priority; wait = wait; condition = t.tree }) a3
+
+-- the first m transitions from `at` on, of a sheet with this header
+abbrev pub transitions_at : List ℕ → Header → ℕ → ℕ → Ans (List Transition)
+transitions_at s h at m = upto (transition_at s h.states h.inputs) at m
 
 -- the two states, as the code answers them
 abbrev pub pair_of : Names → ℕ × ℕ
@@ -59,12 +65,14 @@ ArrowIs s k (no why) r word = r ≡ Err why
 
 -- the code's rows and arrows are those of the lists
 abbrev pub HoldsRows : Ans (List (List Bool)) → Result Cursor Refusal → List ℕ → Type 0
-HoldsRows (ok xs next) r rows = (r ≡ Ok (record { at = next })) × ((i : ℕ) → i < length rows → get_or rows i 0 ≡ word_of (get_or xs i []))
+HoldsRows (ok xs next) r rows =
+    (r ≡ Ok (record { at = next })) × ((i : ℕ) → i < length rows → get_or rows i 0 ≡ word_of (get_or xs i []))
 HoldsRows (no why) r rows = r ≡ Err why
 
 abbrev pub HoldsArrows : List ℕ → ℕ → Ans (List Transition) → Result Cursor Refusal → List ℕ → Type 0
 HoldsArrows s k (ok ts next) r arrows =
-    (r ≡ Ok (record { at = next })) × ((i : ℕ) → i < length arrows → Holds s k (arrow_at arrows i) (get_or ts i no_transition))
+    (r ≡ Ok (record { at = next }))
+    × ((i : ℕ) → i < length arrows → Holds s k (arrow_at arrows i) (get_or ts i no_transition))
 HoldsArrows s k (no why) r arrows = r ≡ Err why
 
 -- the code's copy is that sheet

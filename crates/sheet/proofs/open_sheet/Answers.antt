@@ -1,9 +1,9 @@
 -- `sheet::open_sheet` meets its contract. Assumes nothing.
-use mathlib.Core.Path.{sym, ◌∙◌, refl}
+use mathlib.Core.Path.{refl, sym, ◌∙◌}
 use native.Mathlib.Omega.{arith}
 use Rattle.std.proofs.lemmas.Result.{err_from_is_err_and}
-use Rattle.reader.proofs.Laws.{answers-done, answers-bad, read-sizes}
 use Rattle.answer.proofs.CheckedLaws.{accepted-refused}
+use Rattle.reader.proofs.Laws.{answers-done, answers-bad, read-sizes}
 use Rattle.sheet.proofs.WithLaws.{check-read, check-unread}
 use Rattle.sheet.proofs.open_sheet.Goals as goal
 

@@ -1,5 +1,7 @@
 -- The rules 7 to 13 over the decoded arrows and rows, as the code tests them: not needed to read the promises.
-use Rattle.std.specs.Prelude.{ℕ, ◌+◌, ◌*◌, ◌<◌, ◌≡◌, Bool, true, false, not, ◌&&◌, List, length, position, get_or, ltb, eqb, Ok}
+use Rattle.std.specs.Prelude.{ℕ, ◌+◌, ◌*◌, ◌<◌, ◌≡◌, Bool, true, false, not, ◌&&◌, List, length, position, get_or}
+use Rattle.std.specs.Prelude.{ltb, eqb, Ok}
+use Rattle.answer.specs.declared.Refusal.{Refusal}
 use Rattle.answer.specs.declared.Refusal.TheVariants.{Loop, Pair, Rank, NoHome, HomeForm, Gate, Activity}
 use Rattle.std.specs.declared.option.Option.{Option}
 use Rattle.answer.specs.Checked.{Checked}
@@ -91,6 +93,10 @@ lacks_bit word s = ltb 0 s && not (get_bit word s)
 
 abbrev pub activity_row : List ℕ → ℕ → Bool
 activity_row rows s = differs (get_bit (get_or rows s 0) 0) (eqb s 0)
+
+-- what was found is refused as `why` says, which answers as a function does; where nothing was found it is accepted
+abbrev pub Refuses : (ℕ → Refusal → Type 0) → Option ℕ → Checked → Type 0
+Refuses why found r = (f : ℕ → Refusal) → ((i : ℕ) (q : Refusal) → why i q → q ≡ f i) → r ≡ refuse_at f found (Ok tt)
 
 -- the numbers 7 to 13 of n states
 unfoldable pub judge_arrows : List ℕ → List ℕ → ℕ → Checked
