@@ -1,4 +1,5 @@
-// The C boundary, which crate recorder_c exports: each call answers with plain numbers, and settles what stands behind each pointer.
+// The C boundary, which crate recorder_c exports: each call answers with plain numbers, and settles what stands behind
+// each pointer.
 #![tactic(auto)]
 
 ghost use Rattle.std.specs.Prelude.{◌≤◌};
@@ -6,7 +7,8 @@ ghost use Rattle.answer.specs.Number.{place_of, farthest};
 ghost use Rattle.scan.specs.Scan.{state_with};
 ghost use Rattle.machine.specs.Run.{record_with};
 ghost use Rattle.recorder.specs.Answer.{Told};
-ghost use Rattle.recorder.specs.Calls.{ChzCheckSheet, ChzCheckCode, ChzTranslate, ChzColdScan, ChzColdRun, ChzScan, ChzRun};
+ghost use Rattle.recorder.specs.Calls.{ChzCheckSheet, ChzCheckCode, ChzTranslate, ChzColdScan, ChzColdRun};
+ghost use Rattle.recorder.specs.Calls.{ChzScan, ChzRun};
 
 use answer::Checked;
 use machine::Record;
@@ -92,13 +94,12 @@ pub fn chz_scan(
     elapsed: u32,
     place: &mut u32,
 ) -> u32
-    ensures { ChzScan sheet.now (state_with state.old outputs.old clock.old) inputs elapsed result place.new state.new outputs.new clock.new }
+    ensures {
+        ChzScan sheet.now (state_with state.old outputs.old clock.old) inputs elapsed
+        result place.new state.new outputs.new clock.new
+    }
 {
-    let given = State {
-        state: *state,
-        outputs: *outputs,
-        clock: *clock,
-    };
+    let given = scan::state_with(*state, *outputs, *clock);
     let scanned = scan::scan(sheet, given, inputs, elapsed);
     State {
         state: *state,
@@ -118,13 +119,12 @@ pub fn chz_run(
     elapsed: u32,
     place: &mut u32,
 ) -> u32
-    ensures { ChzRun code.now (record_with flags.old outputs.old clock.old) inputs elapsed result place.new flags.new outputs.new clock.new }
+    ensures {
+        ChzRun code.now (record_with flags.old outputs.old clock.old) inputs elapsed
+        result place.new flags.new outputs.new clock.new
+    }
 {
-    let given = Record {
-        flags: *flags,
-        outputs: *outputs,
-        clock: *clock,
-    };
+    let given = machine::record_with(*flags, *outputs, *clock);
     let ran = machine::run(code, given, inputs, elapsed);
     Record {
         flags: *flags,
