@@ -1,4 +1,5 @@
--- What each out-parameter of the C calls is: r is the number returned, the others are what stands behind the pointers at exit.
+-- What each out-parameter of the C calls is: r is the number returned, the others are what stands behind the pointers
+-- at exit.
 use Rattle.std.specs.Prelude.{ℕ, ◌≡◌, List}
 use Rattle.answer.specs.Checked.{Checked}
 use Rattle.answer.specs.Number.{number_of, place_of}

@@ -1,5 +1,5 @@
--- What each C call returns and leaves behind its pointers, as a relation by the call's name: over what it is given, the number that it returns
--- and what stands behind each pointer at exit.
+-- What each C call returns and leaves behind its pointers, as a relation by the call's name: over what it is given, the
+-- number that it returns and what stands behind each pointer at exit.
 use Rattle.std.specs.Prelude.{ℕ, List}
 use Rattle.sheet.specs.Judging.{check_sheet}
 use Rattle.scan.specs.declared.State.{State}
@@ -31,10 +31,12 @@ pub record ChzColdRun (sheet : List ℕ) (number place flags outputs clock : ℕ
   pub left : RecordLeft (cold_run sheet).«record» flags outputs clock
 
 -- from the record given
-pub record ChzScan (sheet : List ℕ) (given : State) (inputs elapsed : ℕ) (number place state outputs clock : ℕ) : Type 0 where
+pub record ChzScan (sheet : List ℕ) (given : State) (inputs elapsed : ℕ)
+    (number place state outputs clock : ℕ) : Type 0 where
   pub told : Told (scan_sheet sheet given inputs elapsed).verdict number place
   pub left : StateLeft (scan_sheet sheet given inputs elapsed).«record» state outputs clock
 
-pub record ChzRun (code : List ℕ) (given : Record) (inputs elapsed : ℕ) (number place flags outputs clock : ℕ) : Type 0 where
+pub record ChzRun (code : List ℕ) (given : Record) (inputs elapsed : ℕ)
+    (number place flags outputs clock : ℕ) : Type 0 where
   pub told : Told (run_code code given inputs elapsed).verdict number place
   pub left : RecordLeft (run_code code given inputs elapsed).«record» flags outputs clock

@@ -1,5 +1,5 @@
--- "Prove that the contract admits a single outcome", at the C boundary: for each call, whatever it is given, there is one number, one place and one
--- value behind each other pointer that its relation allows, and no other.
+-- "Prove that the contract admits a single outcome", at the C boundary: for each call, whatever it is given, there is
+-- one number, one place and one value behind each other pointer that its relation allows, and no other.
 use Rattle.std.specs.Prelude.{ℕ, ◌≡◌, List}
 use Rattle.scan.specs.declared.State.{State}
 use Rattle.machine.specs.declared.Record.{Record}

@@ -94,10 +94,8 @@ pub fn chz_scan(
     elapsed: u32,
     place: &mut u32,
 ) -> u32
-    ensures {
-        ChzScan sheet.now (state_with state.old outputs.old clock.old) inputs elapsed
-        result place.new state.new outputs.new clock.new
-    }
+    ensures { ChzScan sheet.now (state_with state.old outputs.old clock.old) inputs elapsed
+        result place.new state.new outputs.new clock.new }
 {
     let given = scan::state_with(*state, *outputs, *clock);
     let scanned = scan::scan(sheet, given, inputs, elapsed);
@@ -119,10 +117,8 @@ pub fn chz_run(
     elapsed: u32,
     place: &mut u32,
 ) -> u32
-    ensures {
-        ChzRun code.now (record_with flags.old outputs.old clock.old) inputs elapsed
-        result place.new flags.new outputs.new clock.new
-    }
+    ensures { ChzRun code.now (record_with flags.old outputs.old clock.old) inputs elapsed
+        result place.new flags.new outputs.new clock.new }
 {
     let given = machine::record_with(*flags, *outputs, *clock);
     let ran = machine::run(code, given, inputs, elapsed);

@@ -56,7 +56,8 @@ blocks-length to (t ∷ ts) = rw (length-append, block-length, blocks-length to 
 pub blocks-append : (to : ℕ → ℕ) (ts us : List Transition) → blocks to (ts ++ us) ≡ blocks to ts ++ blocks to us
 unfolding blocks
 blocks-append to [] us = refl
-blocks-append to (t ∷ ts) us = rw (blocks-append to ts us) (sym (append_assoc (block t (to t.destination)) (blocks to ts) (blocks to us)))
+blocks-append to (t ∷ ts) us =
+    rw (blocks-append to ts us) (sym (append_assoc (block t (to t.destination)) (blocks to ts) (blocks to us)))
 
 pub blocks_len-append : (ts us : List Transition) → blocks_len (ts ++ us) ≡ blocks_len ts + blocks_len us
 unfolding blocks_len
@@ -84,7 +85,8 @@ abbrev pub AllLen : ℕ → List (List Bool) → Type 0
 AllLen l [] = Unit {0}
 AllLen l (row ∷ rows) = (length row ≡ l) × AllLen l rows
 
-pub all-len : (l : ℕ) (rows : List (List Bool)) → ((s : ℕ) → s < length rows → length (get_or rows s []) ≡ l) → AllLen l rows
+pub all-len : (l : ℕ) (rows : List (List Bool)) → ((s : ℕ) → s < length rows → length (get_or rows s []) ≡ l)
+    → AllLen l rows
 all-len l [] h = tt
 all-len l (row ∷ rows) h = (h 0 (omega arith), all-len l rows (λ s lt. h (suc s) (omega arith)))
 
@@ -99,29 +101,36 @@ pub state-length : (end : ℕ) (row : List Bool) (rows : List (List Bool))
 unfolding state_blocks
 state-length end row rows = rw (length-append, row-length) (omega arith)
 
-pub states-length : (end l : ℕ) (rows : List (List Bool)) → AllLen l rows → length (state_blocks end rows) ≡ length rows * (l + 2)
+pub states-length : (end l : ℕ) (rows : List (List Bool)) → AllLen l rows → length (state_blocks end rows)
+    ≡ length rows * (l + 2)
 unfolding state_blocks
 states-length end l [] h = omega arith
 states-length end l (row ∷ rows) h =
     rw (state-length end row rows, states-length end l rows h.1, suc-mul (length rows) (l + 2)) (omega (arith, h.0))
 
 -- the state blocks of two lists of rows, one behind the other
-pub states-append : (end : ℕ) (rows more : List (List Bool)) → state_blocks end (rows ++ more) ≡ state_blocks end rows ++ state_blocks end more
+pub states-append : (end : ℕ) (rows more : List (List Bool)) → state_blocks end (rows ++ more)
+    ≡ state_blocks end rows ++ state_blocks end more
 unfolding state_blocks
 states-append end [] more = refl
 states-append end (row ∷ rows) more =
-    rw (states-append end rows more) (sym (append_assoc (row_code 0 row) (TRES ∷ JMP end ∷ state_blocks end rows) (state_blocks end more)))
+    rw (states-append end rows more)
+    (sym (append_assoc (row_code 0 row) (TRES ∷ JMP end ∷ state_blocks end rows) (state_blocks end more)))
 
 -- the words of a row's part, and the word behind it
-pub rows_append : (i : ℕ) (row more : List Bool) → row_code i (row ++ more) ≡ row_code i row ++ row_code (i + length row) more
+pub rows_append : (i : ℕ) (row more : List Bool)
+    → row_code i (row ++ more) ≡ row_code i row ++ row_code (i + length row) more
 unfolding row_code
 rows_append i [] more = let e : i + 0 ≡ i = omega arith in rw e refl
-rows_append i (true ∷ bs) more = let e : i + suc (length bs) ≡ suc i + length bs = omega arith in rw (rows_append (suc i) bs more, e) refl
-rows_append i (false ∷ bs) more = let e : i + suc (length bs) ≡ suc i + length bs = omega arith in rw (rows_append (suc i) bs more, e) refl
+rows_append i (true ∷ bs) more = let e : i + suc (length bs) ≡ suc i + length bs = omega arith in
+    rw (rows_append (suc i) bs more, e) refl
+rows_append i (false ∷ bs) more = let e : i + suc (length bs) ≡ suc i + length bs = omega arith in
+    rw (rows_append (suc i) bs more, e) refl
 
 -- the whole code, of a sheet with a row for each state and in it a bit for each output:
 -- "the code has the sum of (6 + e + t) over transitions, plus 2 + n(l + 2) words"
-module _ (a : Sheet) (rows : length a.rows ≡ a.states) (row : (s : ℕ) → s < a.states → length (row_of a s) ≡ a.outputs) where
+module _ (a : Sheet) (rows : length a.rows ≡ a.states)
+    (row : (s : ℕ) → s < a.states → length (row_of a s) ≡ a.outputs) where
   pub all-rows : AllLen a.outputs a.rows
   all-rows = all-len a.outputs a.rows (λ s lt. row s (omega arith))
 

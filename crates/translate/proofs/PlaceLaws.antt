@@ -15,7 +15,8 @@ use Rattle.reader.specs.Reading.{read_sheet}
 use Rattle.sheet.proofs.PlaceLaws.{with-holds}
 use Rattle.format.proofs.Format.{read_formed}
 use Rattle.scan.proofs.AllLaws.{all_of}
-use Rattle.translate.specs.Writing.{code_of, Written, unwritten, written_with, translate_into, no_record, cold_run, Cold}
+use Rattle.translate.specs.Writing.{code_of, Written, unwritten, written_with, translate_into, no_record, cold_run}
+use Rattle.translate.specs.Writing.{Cold}
 use Rattle.translate.proofs.LengthLaws.{code_end, code-bytes}
 use Rattle.translate.proofs.RoomLaws.{end-words}
 
@@ -41,7 +42,8 @@ answer-small s buffer =
     with-holds Small (unwritten buffer) (λ why h. (omega arith, omega arith)) s _
     (λ a end e. go (leb (length (code_of a)) (length buffer)) (code_of a) (code_fits s a end e))
   where
-    go : (b : Bool) (bytes : List ℕ) → length bytes ≤ farthest → Small (cond b (written_with buffer bytes) (unwritten buffer (Room (length bytes))))
+    go : (b : Bool) (bytes : List ℕ) → length bytes ≤ farthest
+        → Small (cond b (written_with buffer bytes) (unwritten buffer (Room (length bytes))))
     go true bytes h = (omega arith, h)
     go false bytes h = (h, omega arith)
 
@@ -54,4 +56,5 @@ length-fits s buffer = (answer-small s buffer).1
 pub cold-place-fits : (s : List ℕ) → place_of (cold_run s).verdict ≤ farthest
 unfolding cold_run
 cold-place-fits s =
-    with-holds (λ (x : Cold). place_of x.verdict ≤ farthest) no_record (λ why h. omega arith) s _ (λ a end e. omega arith)
+    with-holds (λ (x : Cold). place_of x.verdict ≤ farthest) no_record (λ why h. omega arith) s _
+    (λ a end e. omega arith)

@@ -32,7 +32,8 @@ blocks-words [] h = omega arith
 blocks-words (t ∷ ts) h = omega (arith, block_words t h.0, blocks-words ts h.1)
 
 -- so END stands at word 7,361 at most
-pub end-words : (a : Sheet) → All (λ t. nodes t.condition ≤ 31) a.transitions → count a ≤ 128 → a.states ≤ 32 → a.outputs ≤ 16 → end_at a ≤ 7361
+pub end-words : (a : Sheet) → All (λ t. nodes t.condition ≤ 31) a.transitions → count a ≤ 128 → a.states ≤ 32
+    → a.outputs ≤ 16 → end_at a ≤ 7361
 unfolding end_at state_at
 end-words a h m n l =
     let p : a.states * (a.outputs + 2) ≤ 32 * (a.outputs + 2) = mul-le-mul_right (a.outputs + 2) n in

@@ -26,9 +26,10 @@ pub record Written : Type 0 where
 abbrev pub unwritten : List ℕ → Refusal → Written
 unwritten buffer why = record { answer = record { verdict = Err why; length = 0 }; buffer = buffer }
 
--- "(Ok tt) translation writes the code from the buffer's start and no byte after it, and returns its length in bytes."
+-- "Accepted translation writes the code from the buffer's start and no byte after it, and returns its length in bytes."
 abbrev pub written_with : List ℕ → List ℕ → Written
-written_with buffer bytes = record { answer = record { verdict = (Ok tt); length = length bytes }; buffer = sets buffer 0 bytes }
+written_with buffer bytes =
+    record { answer = record { verdict = Ok tt; length = length bytes }; buffer = sets buffer 0 bytes }
 
 -- 14 ROOM: "the code needs more bytes than the buffer has", "bytes needed"
 unfoldable pub translate_into : List ℕ → List ℕ → Written
@@ -50,9 +51,10 @@ abbrev pub no_record : Refusal → Cold
 no_record why = record { verdict = Err why; «record» = record_with 0 0 0 }
 
 unfoldable pub cold_run : List ℕ → Cold
-cold_run s = with_sheet s no_record λ a. record { verdict = (Ok tt); «record» = cold_record a }
+cold_run s = with_sheet s no_record λ a. record { verdict = Ok tt; «record» = cold_record a }
 
--- THE CONTRACTS of `translate`, the answer and every byte of the buffer at exit, and of `cold_run`, the verdict and the record
+-- THE CONTRACTS of `translate`, the answer and every byte of the buffer at exit, and of `cold_run`, the verdict and
+-- the record
 pub record Translates (s old : List ℕ) (r : Translated) (new : List ℕ) : Type 0 where
   pub answer : r ≡ (translate_into s old).answer
   pub buffer : new ≡ (translate_into s old).buffer

@@ -6,4 +6,5 @@ use Rattle.recorder.proofs.chz_run.Goals as goal
 pub answered-requires : goal.answered-requires
 answered-requires c =
     let t = c.args in
-    rw (c.run-ran.ensures, c.record_with-given.ensures) (run-place-fits t.code.now (record_with t.flags.now t.outputs.now t.clock.now) t.inputs t.elapsed)
+    rw (c.run-ran.ensures, c.record_with-given.ensures)
+    (run-place-fits t.code.now (record_with t.flags.now t.outputs.now t.clock.now) t.inputs t.elapsed)
