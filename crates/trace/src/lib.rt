@@ -5,6 +5,7 @@
 
 use std::error::Error;
 use std::fmt;
+use text::Count;
 
 /// How many input bits a scan has: as many as the sheet has inputs, or any number that code can look at.
 #[derive(Clone, Copy, Debug, PartialEq, Eq)]
@@ -21,13 +22,14 @@ impl Span {
 
 impl fmt::Display for Span {
     fn fmt<W: fmt::Write>(&self, f: &mut fmt::Formatter<W>) -> fmt::Result {
-        let least = self.least;
-        let most = self.most;
-        if least != most {
-            write!(f, "{least} to ")?;
+        if self.least != self.most {
+            write!(f, "{} to ", self.least)?;
         }
-        let plural = if most == 1 { "" } else { "s" };
-        write!(f, "{most} input bit{plural}")
+        let most = Count {
+            number: u64::from(self.most),
+            noun: "input bit",
+        };
+        write!(f, "{most}")
     }
 }
 
