@@ -5,7 +5,6 @@ use start::{Difference, Run};
 use std::alloc::{AllocError, Global};
 use std::fmt::Display;
 use std::io;
-use std::io::ErrorKind;
 use table::{Change, Flags, Row};
 use text::{Bits, Count};
 use trace::{BadLine, Entry, Trace};
@@ -89,17 +88,17 @@ fn row(run: &Run, inputs: Option<Bits>, change: Change) -> Row {
     }
 }
 
-/// A run, the trace that it follows, and its page.
+// A run, the trace that it follows, and its page.
 #[derive(Drop)]
-pub struct Play<'a, W: Drop> {
+struct Play<'a, W: Drop> {
     run: Run<'a>,
     trace: Trace,
     page: Page<W>,
 }
 
 impl<'a, W: io::Write + Drop> Play<'a, W> {
-    /// The table's head and the line of the start stand on the page.
-    pub fn begin(alloc: Global, run: Run<'a>, to: W) -> Result<Self, Fault> {
+    // The table's head and the line of the start stand on the page.
+    fn begin(alloc: Global, run: Run<'a>, to: W) -> Result<Self, Fault> {
         let mut page = Page::new(alloc, to)?;
         page.put(run.columns)?;
         page.put(row(&run, None, run.opening))?;
@@ -140,26 +139,31 @@ impl<'a, W: io::Write + Drop> Play<'a, W> {
             .put(format_args!("ended: {scans}, {time} ms, {flags}"))
     }
 
-    // The page is written before each read, so that whoever types a trace sees each answer. A loop has to end, and nothing
-    // says that a file does: no run uses up so many turns.
+    // The page is written before each read, so that whoever types a trace sees each answer. A proved loop has to end, and
+    // nothing says that a file does, so it counts its turns up to a number that no run uses up.
     fn follow<R: io::Read>(&mut self, from: &mut R) -> Result<(), Fault> {
         let mut part = [0u8; PAGE];
         for _ in 0..u64::MAX {
             self.page.write_out()?;
-            match from.read(&mut part) {
+            match files::read_some(from, &mut part) {
                 Ok(0) => return self.close(),
                 Ok(n) => self.take(&part[..n])?,
-                Err(e) if e.kind() == ErrorKind::Interrupted => {}
                 Err(e) => return Err(Fault::NotRead(e)),
             }
         }
         Ok(())
     }
+}
 
-    /// Plays the whole trace. All that stands on the page is written, whatever ended it.
-    pub fn play<R: io::Read>(&mut self, from: &mut R) -> Result<(), Fault> {
-        let played = self.follow(from);
-        self.page.write_out()?;
-        played
-    }
+/// Plays a trace to its end. All that stands on the page is written, whatever ended it.
+pub fn play_trace<R: io::Read, W: io::Write + Drop>(
+    alloc: Global,
+    run: Run,
+    from: &mut R,
+    to: W,
+) -> Result<(), Fault> {
+    let mut play = Play::begin(alloc, run, to)?;
+    let played = play.follow(from);
+    play.page.write_out()?;
+    played
 }

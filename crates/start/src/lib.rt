@@ -6,6 +6,7 @@ use answer::{Checked, Refusal};
 use machine::Record;
 use reader::Decoded;
 use scan::State;
+use std::fmt;
 use table::{Change, Columns};
 use trace::{Entry, Span};
 
@@ -60,6 +61,28 @@ pub struct Difference {
     pub scan: u64,
     pub record: Record,
     pub reference: Option<(Source, State)>,
+}
+
+impl Difference {
+    /// Whether the code came from a file, and so need not do what the sheet says.
+    pub fn is_of_given(&self) -> bool {
+        matches!(self.reference, Some((Source::Given, _)))
+    }
+}
+
+// The scan's number, and both records in a line each.
+impl fmt::Display for Difference {
+    fn fmt<W: fmt::Write>(&self, f: &mut fmt::Formatter<W>) -> fmt::Result {
+        let code = self.record;
+        writeln!(f, "{}", self.scan)?;
+        write!(f, "code: flag word {}, output word ", code.flags)?;
+        write!(f, "{}, clock {}", code.outputs, code.clock)?;
+        let Some((_, reference)) = self.reference else {
+            return Ok(());
+        };
+        write!(f, "\nreference: state {}, output word ", reference.state)?;
+        write!(f, "{}, clock {}", reference.outputs, reference.clock)
+    }
 }
 
 fn accepted(verdict: Checked) -> Result<(), Refusal> {
