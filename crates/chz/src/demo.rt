@@ -25,5 +25,5 @@ pub fn demo_command(rt: &HostRuntime) -> Result<Status, Fault> {
     status::tell(rt, &mut rt.stdout(), WORDS)?;
     report::check_sheet(rt, &TWO_CONTACT)?;
     report::tell_code(rt, &mut rt.stdout(), "translated", code.len())?;
-    running::play_whole(rt, &TWO_CONTACT, code.as_slice(), P12, b"P12")
+    running::run_held(rt, &TWO_CONTACT, code.as_slice(), P12, b"P12")
 }

@@ -47,18 +47,6 @@ fn translate(rt: &HostRuntime, o: &Options) -> Result<Status, Fault> {
     }
 }
 
-// The trace alone, or the sheet and the trace.
-fn run(rt: &HostRuntime, o: &Options) -> Result<Status, Fault> {
-    let is_named = o.code.is_some() || o.sheet.is_some();
-    match o.files.as_slice() {
-        [trace] if is_named => running::run_command(rt, o, o.sheet, trace),
-        [sheet, trace] if !is_named => running::run_command(rt, o, Some(sheet), trace),
-        _ => Err(Fault::Usage(
-            "run takes a sheet and a trace: chz run SHEET TRACE, or chz run --code CODE TRACE",
-        )),
-    }
-}
-
 // That a command is given nothing.
 fn alone(o: &Options, usage: &'static str) -> Result<(), Fault> {
     if o.is_plain() && o.files.is_empty() {
@@ -71,7 +59,7 @@ fn run_command(rt: &HostRuntime, command: Command, o: &Options) -> Result<Status
     match command {
         Command::Check => check(rt, o),
         Command::Translate => translate(rt, o),
-        Command::Run => run(rt, o),
+        Command::Run => running::run_command(rt, o),
         Command::Demo => {
             alone(o, "demo takes no file")?;
             demo::demo_command(rt)

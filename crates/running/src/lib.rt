@@ -1,7 +1,6 @@
 // The command that runs: a sheet, or code alone or beside a sheet.
 #![tactic(auto)]
 
-use answer::Refusal;
 use files::Word;
 use options::Options;
 use report::{CODE_BYTES, SHEET_BYTES, accepted, read_file};
@@ -19,6 +18,19 @@ fn play_from<R: io::Read>(
     ending::status_of(rt, name, played)
 }
 
+/// A trace that is held, on a sheet and its own code.
+pub fn run_held(
+    rt: &HostRuntime,
+    sheet: &[u8],
+    code: &[u8],
+    trace: &[u8],
+    name: &[u8],
+) -> Result<Status, Fault> {
+    let run = Run::beside(sheet, code, Source::Translated, None)?;
+    let mut from = trace;
+    play_from(rt, run, &mut from, name)
+}
+
 // Plays the trace that a word names, `-` being standard input.
 fn play_named(rt: &HostRuntime, run: Run, word: &Word) -> Result<Status, Fault> {
     let alloc = rt.alloc();
@@ -33,7 +45,7 @@ fn play_named(rt: &HostRuntime, run: Run, word: &Word) -> Result<Status, Fault> 
     play_from(rt, run, &mut file, name)
 }
 
-// The sheet's own code beside its reference. Any sheet's code fits in 26,028 bytes.
+// The sheet's own code beside its reference.
 fn run_sheet(
     rt: &HostRuntime,
     sheet: &Word,
@@ -42,11 +54,8 @@ fn run_sheet(
 ) -> Result<Status, Fault> {
     let sheet = read_file(rt, sheet, SHEET_BYTES)?;
     let sheet = sheet.as_slice();
-    let mut code = [0u8; 26028];
-    let translated = translate::translate(sheet, &mut code);
-    accepted(translated.verdict)?;
-    let code = &code[..translated.length.min(code.len())];
-    play_named(rt, Run::beside(sheet, code, Source::Translated, start)?, trace)
+    let code = rewrite::code_of(rt.alloc(), sheet)?;
+    play_named(rt, Run::beside(sheet, code.as_slice(), Source::Translated, start)?, trace)
 }
 
 // Code from a file, alone.
