@@ -37,7 +37,7 @@ fn play_named(rt: &HostRuntime, run: Run, word: &Word) -> Result<Status, Fault> 
     let name = word
         .name()
         .map_err(|e| files::Fault::of_file(alloc, b"the trace's name", e))?;
-    if name == b"-" {
+    if matches!(name, b"-") {
         return play_from(rt, run, &mut rt.stdin(), b"standard input");
     }
     let mut file =
@@ -113,9 +113,8 @@ fn start_of(options: &Options) -> Result<Option<Start>, Fault> {
 /// A sheet, code or both, and a trace.
 pub fn run_command(rt: &HostRuntime, options: &Options) -> Result<Status, Fault> {
     match (options.sheet, options.code, options.files.as_slice()) {
-        (None, None, [sheet, trace]) | (Some(sheet), None, [trace]) => {
-            run_sheet(rt, sheet, start_of(options)?, trace)
-        }
+        (None, None, [sheet, trace]) => run_sheet(rt, sheet, start_of(options)?, trace),
+        (Some(sheet), None, [trace]) => run_sheet(rt, sheet, start_of(options)?, trace),
         (None, Some(code), [trace]) => run_code(rt, code, start_of(options)?, trace),
         (Some(sheet), Some(code), [trace]) => {
             run_beside(rt, sheet, code, start_of(options)?, trace)
