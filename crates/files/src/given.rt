@@ -1,5 +1,6 @@
 // The words that the program was given.
-use std::alloc::AllocError;
+use crate::fault::Fault;
+use std::alloc::{AllocError, Global};
 use std::env::{Env, FillError};
 use std::io;
 
@@ -21,11 +22,14 @@ impl Word {
         }
     }
 
-    // The word as a file's name.
-    pub fn name(&self) -> io::Result<&[u8]> {
+    // The word as a file's name; a fault says whose name it is.
+    pub fn name(&self, alloc: Global, whose: &str) -> Result<&[u8], Fault> {
         match &self.held {
             Some(bytes) => Ok(bytes.as_slice()),
-            None => Err(io::Error::from_raw_os_error(TOO_LONG)),
+            None => {
+                let error = io::Error::from_raw_os_error(TOO_LONG);
+                Err(Fault::of_file(alloc, whose.as_bytes(), error))
+            }
         }
     }
 }

@@ -1,6 +1,7 @@
 // Reads, tried again where a signal interrupted them.
 ghost use Rattle.std.specs.Prelude.{◌≤◌, IfOk, length};
 
+use crate::fault::Fault;
 use crate::named;
 use std::io;
 use std::io::{ErrorKind, Read};
@@ -19,11 +20,15 @@ pub fn read_some<R: io::Read>(from: &mut R, buf: &mut [u8]) -> io::Result<usize>
     Err(io::Error::from(ErrorKind::Interrupted))
 }
 
-// A file to its end, or as many of its bytes as are wanted at the most.
-pub fn read_file(rt: &HostRuntime, name: &[u8], most: u64) -> io::Result<Vec<u8>> {
+fn read_to_end(rt: &HostRuntime, name: &[u8], most: u64) -> io::Result<Vec<u8>> {
     let mut all = Vec::new(rt.alloc());
     named::open_read(rt, name)?
         .take(most)
         .read_to_end(&mut all)?;
     Ok(all)
+}
+
+// A file to its end, or as many of its bytes as are wanted at the most.
+pub fn read_file(rt: &HostRuntime, name: &[u8], most: u64) -> Result<Vec<u8>, Fault> {
+    read_to_end(rt, name, most).map_err(|e| Fault::of_file(rt.alloc(), name, e))
 }

@@ -89,10 +89,7 @@ pub fn tell_code<W: io::Write>(
 
 // Reads the file that a word names, to its end or to the most bytes that are wanted.
 pub fn read_file(rt: &HostRuntime, word: &Word, most: u64) -> Result<Vec<u8>, files::Fault> {
-    let name = word
-        .name()
-        .map_err(|e| files::Fault::of_file(rt.alloc(), b"a file's name", e))?;
-    files::read_file(rt, name, most).map_err(|e| files::Fault::of_file(rt.alloc(), name, e))
+    files::read_file(rt, word.name(rt.alloc(), "a file's name")?, most)
 }
 
 pub fn check_sheet(rt: &HostRuntime, sheet: &[u8]) -> Result<Status, Fault> {

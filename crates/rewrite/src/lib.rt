@@ -19,7 +19,7 @@ pub fn code_of(alloc: Global, sheet: &[u8]) -> Result<Vec<u8>, Fault> {
 }
 
 pub fn translate_command(rt: &HostRuntime, sheet: &Word, code: &Word) -> Result<Status, Fault> {
-    let name = code.name().map_err(|e| files::Fault::of_file(rt.alloc(), b"the code's name", e))?;
+    let name = code.name(rt.alloc(), "the code's name")?;
     // The launcher looks through links; the program itself sees only that the names are the same.
     if sheet.bytes() == name {
         return Err(Fault::Usage("the code would replace the sheet"));

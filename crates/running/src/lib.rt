@@ -34,14 +34,11 @@ pub fn run_held(
 // Plays the trace that a word names, `-` being standard input.
 fn play_named(rt: &HostRuntime, run: Run, word: &Word) -> Result<Status, Fault> {
     let alloc = rt.alloc();
-    let name = word
-        .name()
-        .map_err(|e| files::Fault::of_file(alloc, b"the trace's name", e))?;
+    let name = word.name(alloc, "the trace's name")?;
     if matches!(name, b"-") {
         return play_from(rt, run, &mut rt.stdin(), b"standard input");
     }
-    let mut file =
-        files::open_read(rt, name).map_err(|e| files::Fault::of_file(alloc, name, e))?;
+    let mut file = files::open_read(rt, name).map_err(|e| files::Fault::of_file(alloc, name, e))?;
     play_from(rt, run, &mut file, name)
 }
 
@@ -55,7 +52,11 @@ fn run_sheet(
     let sheet = read_file(rt, sheet, SHEET_BYTES)?;
     let sheet = sheet.as_slice();
     let code = rewrite::code_of(rt.alloc(), sheet)?;
-    play_named(rt, Run::beside(sheet, code.as_slice(), Source::Translated, start)?, trace)
+    play_named(
+        rt,
+        Run::beside(sheet, code.as_slice(), Source::Translated, start)?,
+        trace,
+    )
 }
 
 // Code from a file, alone.
@@ -81,7 +82,11 @@ fn run_beside(
     let sheet = sheet.as_slice();
     accepted(sheet::check_sheet(sheet))?;
     let code = read_code(rt, code)?;
-    play_named(rt, Run::beside(sheet, code.as_slice(), Source::Given, start)?, trace)
+    play_named(
+        rt,
+        Run::beside(sheet, code.as_slice(), Source::Given, start)?,
+        trace,
+    )
 }
 
 // Code that passed its check.
@@ -93,11 +98,7 @@ fn read_code(rt: &HostRuntime, word: &Word) -> Result<Vec<u8>, Fault> {
 
 // Where a run is to begin, if not from cold.
 fn start_of(options: &Options) -> Result<Option<Start>, Fault> {
-    let state = options::number_up_to(
-        options.state,
-        31,
-        "--state takes a number from 0 to 31",
-    )?;
+    let state = options::number_up_to(options.state, 31, "--state takes a number from 0 to 31")?;
     let clock = options::number_up_to(
         options.clock,
         u32::MAX,
@@ -106,7 +107,7 @@ fn start_of(options: &Options) -> Result<Option<Start>, Fault> {
     if options.state.is_none() && options.clock.is_none() {
         return Ok(None);
     }
-    let state = (state % 32) as u8;
+    let state = state as u8;
     Ok(Some(Start { state, clock }))
 }
 
