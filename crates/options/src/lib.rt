@@ -1,6 +1,8 @@
 // The words after a command: its options, each with a value, and its files.
 #![tactic(auto)]
 
+ghost use Rattle.std.specs.Prelude.{◌≤◌, IfOk};
+
 use files::Word;
 use status::Fault;
 use std::alloc::Global;
@@ -66,18 +68,23 @@ impl<'a> Options<'a> {
     // All words after a command. An option that stands twice has the last value.
     pub fn of(alloc: Global, words: &'a [Word]) -> Result<Options<'a>, Fault> {
         let mut options = Options::none(alloc);
+        // The option whose value the next word is, with its own word.
         let mut lacking = None;
         for word in words {
-            if let Some((named, _)) = lacking {
-                options.set(named, word);
-                lacking = None;
-                continue;
-            }
-            match kind_of(word.bytes()) {
-                Kind::Option(named) => lacking = Some((named, word)),
-                Kind::Unknown => return Err(Fault::of_word(alloc, "there is no option", word)),
-                Kind::File => options.files.push(word)?,
-            }
+            lacking = match (lacking, kind_of(word.bytes())) {
+                (Some((named, _)), _) => {
+                    options.set(named, word);
+                    None
+                }
+                (None, Kind::Option(named)) => Some((named, word)),
+                (None, Kind::Unknown) => {
+                    return Err(Fault::of_word(alloc, "there is no option", word));
+                }
+                (None, Kind::File) => {
+                    options.files.push(word)?;
+                    None
+                }
+            };
         }
         match lacking {
             Some((_, word)) => Err(Fault::of_word(alloc, "a value is missing after", word)),
@@ -101,7 +108,9 @@ fn number_of(digits: &[u8]) -> Option<u32> {
 }
 
 // The number that an option's value is, up to the most; 0 where it is not given.
-pub fn number_up_to(value: Option<&Word>, most: u32, usage: &'static str) -> Result<u32, Fault> {
+pub fn number_up_to(value: Option<&Word>, most: u32, usage: &'static str) -> Result<u32, Fault>
+    ensures { IfOk result (λ n. n ≤ most) }
+{
     let Some(word) = value else { return Ok(0) };
     match number_of(word.bytes()) {
         Some(n) if n <= most => Ok(n),
