@@ -6,10 +6,10 @@ use files::Reason;
 use std::fmt;
 use std::io::Read;
 
-/// A file of cases is shorter.
+// A file of cases is shorter.
 pub const ROOM: u64 = 307200;
 
-/// The bytes of a file, up to a most, to its end or to a read that fails.
+// The bytes of a file, up to a most, to its end or to a read that fails.
 pub fn load(rt: &HostRuntime, name: &str, most: u64) -> Vec<u8> {
     let mut all = Vec::new(rt.alloc());
     match files::open_read(rt, name.as_bytes()) {
@@ -86,7 +86,7 @@ fn judge_each(report: &mut Report, all: &[u8], count: u32, answers: &mut Answers
     }
 }
 
-/// All cases of the file.
+// All cases of the file.
 pub fn judge_all(report: &mut Report, all: &[u8]) {
     if all.len() as u64 >= ROOM {
         return report.fault("the file of cases does not fit");

@@ -10,7 +10,7 @@ const FILL: u8 = 165;
 // The most room that a case gives a translation.
 const ROOM: usize = 32768;
 
-/// What a case asks.
+// What a case asks.
 #[derive(Clone, Copy, Debug, PartialEq, Eq)]
 pub enum Call {
     CheckSheet,
@@ -33,7 +33,7 @@ impl Call {
         Call::Run,
     ];
 
-    /// The call of a number in the file, from 1 on.
+    // The call of a number in the file, from 1 on.
     fn of(number: u8) -> Option<Call> {
         let at = usize::from(number).checked_sub(1)?;
         Call::ALL.get(at).copied()
@@ -54,7 +54,7 @@ impl fmt::Display for Call {
     }
 }
 
-/// A record, whose word is a state's number or a flag word.
+// A record, whose word is a state's number or a flag word.
 #[derive(Clone, Copy, Debug, PartialEq, Eq)]
 struct Numbers {
     word: u32,
@@ -82,7 +82,7 @@ impl From<Record> for Numbers {
     }
 }
 
-/// A case: what is given, and what is to be answered.
+// A case: what is given, and what is to be answered.
 #[derive(Clone, Copy)]
 pub struct Case<'a> {
     pub call: Option<Call>,
@@ -114,7 +114,7 @@ pub fn word(rest: &mut &[u8]) -> Option<u32> {
 }
 
 impl<'a> Case<'a> {
-    /// The case at the front, and what follows it, if it is wholly there.
+    // The case at the front, and what follows it, if it is wholly there.
     pub fn split(all: &'a [u8]) -> Option<(Self, &'a [u8])> {
         let mut rest = all;
         let [call, number] = next::<2>(&mut rest)?;
@@ -196,7 +196,7 @@ impl<'a> Case<'a> {
             && self.is_written(&buffer)
     }
 
-    /// Whether the call of the case answers as the case says.
+    // Whether the call of the case answers as the case says.
     pub fn agrees(&self) -> bool {
         let Some(call) = self.call else {
             return false;

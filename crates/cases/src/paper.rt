@@ -179,7 +179,7 @@ fn has_its_sizes(sheet: &[u8], length: usize) -> bool {
     bits == 1319 && decoded.transitions == 25 && sheet.len() == 165 && length == 1084
 }
 
-/// All of them, those of the two-contact sheet on the sheet given.
+// All of them, those of the two-contact sheet on the sheet given.
 pub fn judge_all(report: &mut Report, sheet: &[u8]) {
     for (name, sheet, number, place) in JUDGED {
         report.worked(name, is(sheet::check_sheet(sheet), number, place));

@@ -2,7 +2,7 @@
 use crate::tally::Tally;
 use std::fmt::Display;
 
-/// What was said of the answers so far.
+// What was said of the answers so far.
 #[derive(Drop)]
 pub struct Report<'a> {
     rt: &'a HostRuntime,
@@ -20,14 +20,14 @@ impl<'a> Report<'a> {
         let _ = self.rt.println(line);
     }
 
-    /// A worked case of the paper.
+    // A worked case of the paper.
     pub fn worked<D: Display + Drop>(&mut self, name: D, agrees: bool) {
         let verdict = if agrees { "ok" } else { "DIFFERS" };
         self.say(format_args!("{name}: {verdict}"));
         self.tally.count(agrees);
     }
 
-    /// An answer that differs, for what is said.
+    // An answer that differs, for what is said.
     pub fn fault(&mut self, what: &str) {
         self.say(what);
         self.tally.count(false);
