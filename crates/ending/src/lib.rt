@@ -26,12 +26,11 @@ fn differs(rt: &HostRuntime, difference: Difference) -> Result<Status, Fault> {
         )?;
         return Ok(Status::Refused);
     }
-    let said =
-        format!(in rt.alloc(); "CODE AND REFERENCE DIFFER, use neither: scan {difference}")?;
+    let said = format!(in rt.alloc(); "CODE AND REFERENCE DIFFER, use neither: scan {difference}")?;
     Err(Fault::Said(said.into_bytes()))
 }
 
-/// The status of a run on the trace of this name, or the fault that ended it.
+// The status of a run on the trace of this name, or the fault that ended it.
 pub fn status_of(
     rt: &HostRuntime,
     name: &[u8],

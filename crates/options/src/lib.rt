@@ -1,7 +1,7 @@
 // The words after a command: its options, each with a value, and its files.
 #![tactic(auto)]
 
-ghost use Rattle.std.specs.Prelude.{◌≤◌, IfOk};
+ghost use Rattle.std.specs.Prelude.{◌≤◌, IfOk, IfSome};
 
 use files::Word;
 use status::Fault;
@@ -107,13 +107,17 @@ fn number_of(digits: &[u8]) -> Option<u32> {
     str::from_utf8(digits).ok()?.parse::<u32>().ok()
 }
 
-// The number that an option's value is, up to the most; 0 where it is not given.
-pub fn number_up_to(value: Option<&Word>, most: u32, usage: &'static str) -> Result<u32, Fault>
-    ensures { IfOk result (λ n. n ≤ most) }
+// The number that an option's value is, up to the most, where it is given.
+pub fn number_up_to(
+    value: Option<&Word>,
+    most: u32,
+    usage: &'static str,
+) -> Result<Option<u32>, Fault>
+    ensures { IfOk result (λ given. IfSome given (λ n. n ≤ most)) }
 {
-    let Some(word) = value else { return Ok(0) };
+    let Some(word) = value else { return Ok(None) };
     match number_of(word.bytes()) {
-        Some(n) if n <= most => Ok(n),
+        Some(n) if n <= most => Ok(Some(n)),
         _ => Err(Fault::Usage(usage)),
     }
 }

@@ -9,7 +9,7 @@ use table::{Change, Flags, Row};
 use text::{Bits, Count};
 use trace::{BadLine, Entry, Trace};
 
-/// Why a trace was not played to its end.
+// Why a trace was not played to its end.
 #[derive(Drop)]
 pub enum Fault {
     BadLine(BadLine),
@@ -155,7 +155,7 @@ impl<'a, W: io::Write + Drop> Play<'a, W> {
     }
 }
 
-/// Plays a trace to its end. All that stands on the page is written, whatever ended it.
+// Plays a trace to its end. All that stands on the page is written, whatever ended it.
 pub fn play_trace<R: io::Read, W: io::Write + Drop>(
     alloc: Global,
     run: Run,

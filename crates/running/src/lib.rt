@@ -18,7 +18,7 @@ fn play_from<R: io::Read>(
     ending::status_of(rt, name, played)
 }
 
-/// A trace that is held, on a sheet and its own code.
+// A trace that is held, on a sheet and its own code.
 pub fn run_held(
     rt: &HostRuntime,
     sheet: &[u8],
@@ -31,69 +31,12 @@ pub fn run_held(
     play_from(rt, run, &mut from, name)
 }
 
-// Plays the trace that a word names, `-` being standard input.
-fn play_named(rt: &HostRuntime, run: Run, word: &Word) -> Result<Status, Fault> {
-    let alloc = rt.alloc();
-    let name = word.name(alloc, "the trace's name")?;
-    if matches!(name, b"-") {
-        return play_from(rt, run, &mut rt.stdin(), b"standard input");
-    }
-    let mut file = files::open_read(rt, name).map_err(|e| files::Fault::of_file(alloc, name, e))?;
-    play_from(rt, run, &mut file, name)
-}
-
-// The sheet's own code beside its reference.
-fn run_sheet(
-    rt: &HostRuntime,
-    sheet: &Word,
+// What the user asked of a run, whatever is run: where it begins, if not from cold, and the trace that it follows.
+#[derive(Drop)]
+struct Request<'a> {
+    rt: &'a HostRuntime,
     start: Option<Start>,
-    trace: &Word,
-) -> Result<Status, Fault> {
-    let sheet = read_file(rt, sheet, SHEET_BYTES)?;
-    let sheet = sheet.as_slice();
-    let code = rewrite::code_of(rt.alloc(), sheet)?;
-    play_named(
-        rt,
-        Run::beside(sheet, code.as_slice(), Source::Translated, start)?,
-        trace,
-    )
-}
-
-// Code from a file, alone.
-fn run_code(
-    rt: &HostRuntime,
-    code: &Word,
-    start: Option<Start>,
-    trace: &Word,
-) -> Result<Status, Fault> {
-    let code = read_code(rt, code)?;
-    play_named(rt, Run::alone(code.as_slice(), start), trace)
-}
-
-// Code from a file, beside a sheet's reference.
-fn run_beside(
-    rt: &HostRuntime,
-    sheet: &Word,
-    code: &Word,
-    start: Option<Start>,
-    trace: &Word,
-) -> Result<Status, Fault> {
-    let sheet = read_file(rt, sheet, SHEET_BYTES)?;
-    let sheet = sheet.as_slice();
-    accepted(sheet::check_sheet(sheet))?;
-    let code = read_code(rt, code)?;
-    play_named(
-        rt,
-        Run::beside(sheet, code.as_slice(), Source::Given, start)?,
-        trace,
-    )
-}
-
-// Code that passed its check.
-fn read_code(rt: &HostRuntime, word: &Word) -> Result<Vec<u8>, Fault> {
-    let code = read_file(rt, word, CODE_BYTES)?;
-    accepted(faults::check_code(code.as_slice()))?;
-    Ok(code)
+    trace: &'a Word,
 }
 
 // Where a run is to begin, if not from cold.
@@ -104,24 +47,77 @@ fn start_of(options: &Options) -> Result<Option<Start>, Fault> {
         u32::MAX,
         "--clock takes a number from 0 to 4294967295",
     )?;
-    if options.state.is_none() && options.clock.is_none() {
+    if state.is_none() && clock.is_none() {
         return Ok(None);
     }
-    let state = state as u8;
-    Ok(Some(Start { state, clock }))
+    Ok(Some(Start {
+        state: state.unwrap_or(0) as u8,
+        clock: clock.unwrap_or(0),
+    }))
 }
 
-/// A sheet, code or both, and a trace.
+impl<'a> Request<'a> {
+    fn new(rt: &'a HostRuntime, options: &Options, trace: &'a Word) -> Result<Self, Fault> {
+        let start = start_of(options)?;
+        Ok(Request { rt, start, trace })
+    }
+
+    // Plays the trace, `-` being standard input.
+    fn play(&self, run: Run) -> Result<Status, Fault> {
+        let alloc = self.rt.alloc();
+        let name = self.trace.name(alloc, "the trace's name")?;
+        if matches!(name, b"-") {
+            return play_from(self.rt, run, &mut self.rt.stdin(), b"standard input");
+        }
+        let mut file = files::open_read(self.rt, name).map_err(|e| files::Fault::of_file(
+            alloc, name, e,
+        ))?;
+        play_from(self.rt, run, &mut file, name)
+    }
+
+    // The sheet's own code beside its reference.
+    fn run_sheet(&self, sheet: &Word) -> Result<Status, Fault> {
+        let sheet = read_file(self.rt, sheet, SHEET_BYTES)?;
+        let sheet = sheet.as_slice();
+        let code = rewrite::code_of(self.rt.alloc(), sheet)?;
+        self.play(Run::beside(sheet, code.as_slice(), Source::Translated, self.start)?)
+    }
+
+    // The bytes of code that passed its check.
+    fn read_code(&self, code: &Word) -> Result<Vec<u8>, Fault> {
+        let code = read_file(self.rt, code, CODE_BYTES)?;
+        accepted(faults::check_code(code.as_slice()))?;
+        Ok(code)
+    }
+
+    // Code from a file, alone.
+    fn run_code(&self, code: &Word) -> Result<Status, Fault> {
+        let code = self.read_code(code)?;
+        self.play(Run::alone(code.as_slice(), self.start))
+    }
+
+    // Code from a file, beside a sheet's reference.
+    fn run_beside(&self, sheet: &Word, code: &Word) -> Result<Status, Fault> {
+        let sheet = read_file(self.rt, sheet, SHEET_BYTES)?;
+        let sheet = sheet.as_slice();
+        accepted(sheet::check_sheet(sheet))?;
+        let code = self.read_code(code)?;
+        self.play(Run::beside(sheet, code.as_slice(), Source::Given, self.start)?)
+    }
+}
+
+const USAGE: &str =
+    "run takes a sheet and a trace: chz run SHEET TRACE, or chz run --code CODE TRACE";
+
+// A sheet, code or both, and a trace.
 pub fn run_command(rt: &HostRuntime, options: &Options) -> Result<Status, Fault> {
     match (options.sheet, options.code, options.files.as_slice()) {
-        (None, None, [sheet, trace]) => run_sheet(rt, sheet, start_of(options)?, trace),
-        (Some(sheet), None, [trace]) => run_sheet(rt, sheet, start_of(options)?, trace),
-        (None, Some(code), [trace]) => run_code(rt, code, start_of(options)?, trace),
-        (Some(sheet), Some(code), [trace]) => {
-            run_beside(rt, sheet, code, start_of(options)?, trace)
-        }
-        _ => Err(Fault::Usage(
-            "run takes a sheet and a trace: chz run SHEET TRACE, or chz run --code CODE TRACE",
-        )),
+        (None, None, [sheet, trace]) => Request::new(rt, options, trace)?.run_sheet(sheet),
+        (Some(sheet), None, [trace]) => Request::new(rt, options, trace)?.run_sheet(sheet),
+        (None, Some(code), [trace]) => Request::new(rt, options, trace)?.run_code(code),
+        (Some(sheet), Some(code), [trace]) => Request::new(rt, options, trace)?.run_beside(
+            sheet, code,
+        ),
+        _ => Err(Fault::Usage(USAGE)),
     }
 }

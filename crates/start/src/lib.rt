@@ -2,6 +2,8 @@
 // with a state and a clock that were asked for, and each scan holds the two records against one another.
 #![tactic(auto)]
 
+ghost use Rattle.std.specs.Prelude.{◌≡◌, ◌^◌, IfSome};
+
 use answer::{Checked, Refusal};
 use machine::Record;
 use reader::Decoded;
@@ -10,7 +12,7 @@ use std::fmt;
 use table::{Change, Columns};
 use trace::{Entry, Span};
 
-/// Where a run begins that is not begun from cold.
+// Where a run begins that is not begun from cold.
 #[derive(Clone, Copy, Debug, Default, PartialEq, Eq)]
 pub struct Start {
     pub state: u8,
@@ -27,14 +29,14 @@ impl Start {
     }
 }
 
-/// Where the code is from that runs beside a reference.
+// Where the code is from that runs beside a reference.
 #[derive(Clone, Copy, Debug, PartialEq, Eq)]
 pub enum Source {
     Translated,
     Given,
 }
 
-/// A sheet and the record of its reference.
+// A sheet and the record of its reference.
 #[derive(Clone, Copy)]
 pub struct Reference<'a> {
     pub sheet: &'a [u8],
@@ -42,7 +44,7 @@ pub struct Reference<'a> {
     pub state: State,
 }
 
-/// What is kept of a run: its code, the reference beside it, if there is one, and how far it came.
+// What is kept of a run: its code, the reference beside it, if there is one, and how far it came.
 #[derive(Clone, Copy)]
 pub struct Run<'a> {
     pub code: &'a [u8],
@@ -55,7 +57,7 @@ pub struct Run<'a> {
     pub time: u64,
 }
 
-/// A scan after which code and reference differ.
+// A scan after which code and reference differ.
 #[derive(Clone, Copy)]
 pub struct Difference {
     pub scan: u64,
@@ -64,7 +66,7 @@ pub struct Difference {
 }
 
 impl Difference {
-    /// Whether the code came from a file, and so need not do what the sheet says.
+    // Whether the code came from a file, and so need not do what the sheet says.
     pub fn is_of_given(&self) -> bool {
         matches!(self.reference, Some((Source::Given, _)))
     }
@@ -92,7 +94,10 @@ fn accepted(verdict: Checked) -> Result<(), Refusal> {
     }
 }
 
-fn flag_of(state: u8) -> Option<u32> {
+// The flag of a state's number, if there is one.
+fn flag_of(state: u8) -> Option<u32>
+    ensures { IfSome result (λ flag. flag ≡ 2 ^ state) }
+{
     if state < 32 { Some(1 << state) } else { None }
 }
 
@@ -112,7 +117,7 @@ fn agree(record: Record, state: State) -> bool {
 }
 
 impl<'a> Run<'a> {
-    /// Code beside the reference of an accepted sheet. It is refused where the sheet lacks the state that was asked for.
+    // Code beside the reference of an accepted sheet. It is refused where the sheet lacks the state that was asked for.
     pub fn beside(
         sheet: &'a [u8],
         code: &'a [u8],
@@ -155,7 +160,7 @@ impl<'a> Run<'a> {
         })
     }
 
-    /// Code alone: only a sheet says what a state's outputs are, so they begin as 0.
+    // Code alone: only a sheet says what a state's outputs are, so they begin as 0.
     pub fn alone(code: &'a [u8], start: Option<Start>) -> Self {
         let start = start.unwrap_or_default();
         Run {
@@ -183,7 +188,7 @@ impl<'a> Run<'a> {
 
     // The reference's scan, held against the record that the code left.
     fn compare(&mut self, entry: Entry) -> bool {
-        let Some(mut reference) = self.reference else {
+        let Some(reference) = &mut self.reference else {
             return true;
         };
         let referred = scan::scan(
@@ -193,11 +198,10 @@ impl<'a> Run<'a> {
             entry.elapsed,
         );
         reference.state = referred.record;
-        self.reference = Some(reference);
         accepted(referred.verdict).is_ok() && agree(self.record, referred.record)
     }
 
-    /// One scan, by the code and, where there is one, by the reference.
+    // One scan, by the code and, where there is one, by the reference.
     pub fn scan(&mut self, entry: Entry) -> Result<Change, Difference> {
         let before = self.record.flags;
         self.scans = self.scans.saturating_add(1);

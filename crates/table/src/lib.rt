@@ -6,7 +6,7 @@ use machine::Record;
 use std::fmt;
 use text::Bits;
 
-/// How many inputs and outputs a run shows. They have columns as wide as their names at the least.
+// How many inputs and outputs a run shows. They have columns as wide as their names at the least.
 #[derive(Clone, Copy, Debug, PartialEq, Eq)]
 pub struct Columns {
     pub inputs: u32,
@@ -41,7 +41,7 @@ fn state_of(flags: u32) -> Option<u32> {
     flags.is_power_of_two().then_some(flags.trailing_zeros())
 }
 
-/// Where a flag word says that a run is: a state, or the word itself where it is not one flag alone.
+// Where a flag word says that a run is: a state, or the word itself where it is not one flag alone.
 #[derive(Clone, Copy, Debug, PartialEq, Eq)]
 pub struct Flags(pub u32);
 
@@ -54,7 +54,7 @@ impl fmt::Display for Flags {
     }
 }
 
-/// How a run came to the record of a line.
+// How a run came to the record of a line.
 #[derive(Clone, Copy, Debug, PartialEq, Eq)]
 pub enum Change {
     ColdStart,
@@ -74,7 +74,7 @@ impl fmt::Display for Change {
     }
 }
 
-/// A line of a run: its start, which has no inputs, or a scan.
+// A line of a run: its start, which has no inputs, or a scan.
 #[derive(Clone, Copy)]
 pub struct Row {
     pub columns: Columns,

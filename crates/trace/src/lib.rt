@@ -7,7 +7,7 @@ use std::error::Error;
 use std::fmt;
 use text::Count;
 
-/// How many input bits a scan has: as many as the sheet has inputs, or any number that code can look at.
+// How many input bits a scan has: as many as the sheet has inputs, or any number that code can look at.
 #[derive(Clone, Copy, Debug, PartialEq, Eq)]
 pub struct Span {
     pub least: u32,
@@ -33,7 +33,7 @@ impl fmt::Display for Span {
     }
 }
 
-/// What a line asks for: an input word, the count of bits that it was given by, and the elapsed ms.
+// What a line asks for: an input word, the count of bits that it was given by, and the elapsed ms.
 #[derive(Clone, Copy, Debug, PartialEq, Eq)]
 pub struct Entry {
     pub inputs: u16,
@@ -41,7 +41,7 @@ pub struct Entry {
     pub elapsed: u32,
 }
 
-/// What is wrong with a line.
+// What is wrong with a line.
 #[derive(Clone, Copy, Debug, PartialEq, Eq)]
 pub enum Fault {
     NotABit,
@@ -55,7 +55,7 @@ pub enum Fault {
     Cut,
 }
 
-/// A line at fault, by its number, and how many bits were expected in it.
+// A line at fault, by its number, and how many bits were expected in it.
 #[derive(Clone, Copy, Debug, PartialEq, Eq)]
 pub struct BadLine {
     pub number: u64,
@@ -192,7 +192,7 @@ impl Line {
     }
 }
 
-/// A trace as far as it was read: how many lines are whole, and the one after them.
+// A trace as far as it was read: how many lines are whole, and the one after them.
 #[derive(Clone, Copy, Debug, PartialEq, Eq)]
 pub struct Trace {
     span: Span,
@@ -217,7 +217,7 @@ impl Trace {
         }
     }
 
-    /// The next byte. A line feed gives the scan of its line, if it has one.
+    // The next byte. A line feed gives the scan of its line, if it has one.
     pub fn take(&mut self, b: u8) -> Result<Option<Entry>, BadLine> {
         if b != b'\n' {
             self.line
@@ -231,7 +231,7 @@ impl Trace {
         Ok(entry)
     }
 
-    /// The trace's end. A line that was begun lacks its line end, and what is missing nobody knows.
+    // The trace's end. A line that was begun lacks its line end, and what is missing nobody knows.
     pub fn end(&self) -> Result<(), BadLine> {
         match self.line.last {
             None => Ok(()),
