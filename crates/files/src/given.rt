@@ -34,7 +34,7 @@ impl Word {
     }
 }
 
-// The word of this number, if there is one.
+// The word of this number, if there is one. The list that std makes is none where a word is not UTF-8.
 fn word_at(rt: &HostRuntime, number: usize) -> Result<Option<Word>, AllocError> {
     let mut room = [0u8; 4096];
     let held = match rt.arg(number, &mut room) {

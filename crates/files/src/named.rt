@@ -33,9 +33,9 @@ pub(crate) fn open_append(rt: &HostRuntime, name: &[u8]) -> io::Result<File> {
 }
 
 // A new file, and none where there is one.
-pub(crate) fn create(rt: &HostRuntime, name: &[u8]) -> io::Result<File> {
+pub(crate) fn create(rt: &HostRuntime, path: &str) -> io::Result<File> {
     OpenOptions::new()
         .write(true)
         .create_new(true)
-        .open(rt, path_of(name)?)
+        .open(rt, path)
 }

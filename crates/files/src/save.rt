@@ -50,93 +50,109 @@ fn kind_of(mut file: File) -> io::Result<Target> {
     }
 }
 
-// A file that exists is opened for writing and left alone, so that one which may not be written stands.
-fn opened_target(rt: &HostRuntime, name: &[u8]) -> io::Result<Target> {
-    match named::open_update(rt, name) {
-        Ok(file) => kind_of(file),
-        Err(e) if e.kind() == ErrorKind::NotFound => Ok(Target::File),
-        Err(e) => Err(e),
-    }
-}
-
-// A pipe is asked for and not found by opening it: whoever reads it would take the close for its end.
-fn target_of(rt: &HostRuntime, name: &[u8]) -> io::Result<Target> {
-    if is_output(name) {
-        return Ok(Target::Output);
-    }
-    if is_descriptor(name) || named::is_pipe(rt, name).unwrap_or(false) {
-        return Ok(Target::Stream);
-    }
-    opened_target(rt, name)
-}
-
-// The name beside another: in its folder, with this process's number, by which the launcher knows it too.
-fn name_beside(rt: &HostRuntime, name: &[u8]) -> io::Result<Vec<u8>> {
-    let folder = match name.iter().rposition(|b| *b == b'/') {
-        Some(slash) => &name[..=slash],
-        None => b"",
-    };
-    let mut beside = folder.to_vec(rt.alloc())?;
-    write!(beside, ".chz-{}", process::id(rt.process()))?;
-    Ok(beside)
-}
-
 // Fills the new file, waits until it has reached the disk, and closes it.
 fn fill(mut file: File, bytes: &[u8]) -> io::Result<()> {
     file.write_all(bytes)?;
     file.sync_all()
 }
 
-// Fills the new file and gives it its name.
-fn place(rt: &HostRuntime, file: File, beside: &[u8], name: &[u8], bytes: &[u8]) -> io::Result<()> {
-    fill(file, bytes)?;
-    // What closing a file has lost std does not say, so the size is asked for that it was left with.
-    let left = fs::metadata(rt, named::path_of(beside)?)?;
-    if left.len() != bytes.len() as u64 {
-        return Err(io::Error::from_raw_os_error(LOST));
-    }
-    fs::rename(rt, named::path_of(beside)?, named::path_of(name)?)
+// Bytes on their way to the file or the stream of a name.
+#[derive(Clone, Copy)]
+struct Save<'a> {
+    rt: &'a HostRuntime,
+    name: &'a [u8],
+    bytes: &'a [u8],
 }
 
-// A fault is told of the name that was meant, but for a file that is in the way.
-fn write_new(rt: &HostRuntime, name: &[u8], bytes: &[u8]) -> Result<(), Fault> {
-    let beside = name_beside(rt, name).map_err(|e| Fault::of_file(rt.alloc(), name, e))?;
-    let beside = beside.as_slice();
-    if beside.len() >= TOO_MANY {
-        return Err(Fault::LongName);
+impl Save<'_> {
+    fn fault(&self, error: io::Error) -> Fault {
+        Fault::of_file(self.rt.alloc(), self.name, error)
     }
-    let file = match named::create(rt, beside) {
-        Ok(file) => file,
-        Err(e) if e.kind() == ErrorKind::AlreadyExists => {
-            return Err(Fault::of_file(rt.alloc(), beside, e));
+
+    // A file that exists is opened for writing and left alone, so that one which may not be written stands.
+    fn opened_target(&self) -> io::Result<Target> {
+        match named::open_update(self.rt, self.name) {
+            Ok(file) => kind_of(file),
+            Err(e) if e.kind() == ErrorKind::NotFound => Ok(Target::File),
+            Err(e) => Err(e),
         }
-        Err(e) => return Err(Fault::of_file(rt.alloc(), name, e)),
-    };
-    place(rt, file, beside, name, bytes).map_err(|e| {
-        let _ = named::path_of(beside).and_then(|path| fs::remove_file(rt, path));
-        Fault::of_file(rt.alloc(), name, e)
-    })
-}
+    }
 
-// At the stream's end: what it has is kept.
-fn append(rt: &HostRuntime, name: &[u8], bytes: &[u8]) -> io::Result<()> {
-    named::open_append(rt, name)?.write_all(bytes)
+    // A pipe is asked for and not found by opening it: whoever reads it would take the close for its end.
+    fn target(&self) -> io::Result<Target> {
+        if is_output(self.name) {
+            return Ok(Target::Output);
+        }
+        if is_descriptor(self.name) || named::is_pipe(self.rt, self.name).unwrap_or(false) {
+            return Ok(Target::Stream);
+        }
+        self.opened_target()
+    }
+
+    // The name beside the file's: in its folder, with this process's number, by which the launcher knows it too.
+    fn name_beside(&self) -> io::Result<Vec<u8>> {
+        let folder = match self.name.iter().rposition(|b| *b == b'/') {
+            Some(slash) => &self.name[..=slash],
+            None => b"",
+        };
+        let mut beside = folder.to_vec(self.rt.alloc())?;
+        write!(beside, ".chz-{}", process::id(self.rt.process()))?;
+        Ok(beside)
+    }
+
+    // Fills the new file and gives it its name.
+    fn place(&self, file: File, beside: &str) -> io::Result<()> {
+        fill(file, self.bytes)?;
+        // What closing a file has lost std does not say, so the size is asked for that it was left with.
+        if fs::metadata(self.rt, beside)?.len() != self.bytes.len() as u64 {
+            return Err(io::Error::from_raw_os_error(LOST));
+        }
+        fs::rename(self.rt, beside, named::path_of(self.name)?)
+    }
+
+    // A fault is told of the name that was meant, but for a file that is in the way.
+    fn write_new(&self) -> Result<(), Fault> {
+        let beside = self.name_beside().map_err(|e| self.fault(e))?;
+        let beside = beside.as_slice();
+        if beside.len() >= TOO_MANY {
+            return Err(Fault::LongName);
+        }
+        let path = named::path_of(beside).map_err(|e| self.fault(e))?;
+        let file = match named::create(self.rt, path) {
+            Ok(file) => file,
+            Err(e) if e.kind() == ErrorKind::AlreadyExists => {
+                return Err(Fault::of_file(self.rt.alloc(), beside, e));
+            }
+            Err(e) => return Err(self.fault(e)),
+        };
+        self.place(file, path).map_err(|e| {
+            let _ = fs::remove_file(self.rt, path);
+            self.fault(e)
+        })
+    }
+
+    // At the stream's end: what it has is kept.
+    fn append(&self) -> io::Result<()> {
+        named::open_append(self.rt, self.name)?.write_all(self.bytes)
+    }
+
+    fn write(&self) -> Result<Wrote, Fault> {
+        let alloc = self.rt.alloc();
+        match self.target().map_err(|e| self.fault(e))? {
+            Target::Output => fault::write_output(alloc, &mut self.rt.stdout(), self.bytes)?,
+            Target::Stream => self
+                .append()
+                .map_err(|e| Fault::of_stream(alloc, self.name, e))?,
+            Target::File => {
+                self.write_new()?;
+                return Ok(Wrote::File);
+            }
+        }
+        Ok(Wrote::Stream)
+    }
 }
 
 // The bytes to the file or the stream of that name.
 pub fn write_file(rt: &HostRuntime, name: &[u8], bytes: &[u8]) -> Result<Wrote, Fault> {
-    match target_of(rt, name).map_err(|e| Fault::of_file(rt.alloc(), name, e))? {
-        Target::Output => {
-            fault::write_output(rt.alloc(), &mut rt.stdout(), bytes)?;
-            Ok(Wrote::Stream)
-        }
-        Target::Stream => {
-            append(rt, name, bytes).map_err(|e| Fault::of_stream(rt.alloc(), name, e))?;
-            Ok(Wrote::Stream)
-        }
-        Target::File => {
-            write_new(rt, name, bytes)?;
-            Ok(Wrote::File)
-        }
-    }
+    Save { rt, name, bytes }.write()
 }
