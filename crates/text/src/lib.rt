@@ -25,11 +25,11 @@ impl fmt::Display for Bits {
     fn fmt<W: fmt::Write>(&self, f: &mut fmt::Formatter<W>) -> fmt::Result {
         let mut rest = self.word;
         for _ in 0..self.count {
-            f.write_char(if rest % 2 == 1 { '1' } else { '0' })?;
+            f.write_str(if rest % 2 == 1 { "1" } else { "0" })?;
             rest /= 2;
         }
         let blanks = f.width().unwrap_or(0).saturating_sub(self.count);
-        f.write_repeated(" ", blanks)
+        write!(f, "{:blanks$}", "")
     }
 }
 
