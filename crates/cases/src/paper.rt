@@ -2,7 +2,7 @@
 use crate::say::Report;
 use answer::Checked;
 use machine::Record;
-use reader::How;
+use reader::Decoded;
 use scan::State;
 
 // M, which is accepted.
@@ -169,14 +169,12 @@ fn lacks_room() -> bool {
 
 // The two-contact sheet: 25 transitions, 1,319 bits, 165 bytes and 271 words of code.
 fn has_its_sizes(sheet: &[u8], length: usize) -> bool {
-    let mut rows = [0u16; 32];
-    let mut arrows = [0u64; 128];
-    let decoded = reader::read_sheet(sheet, &mut rows, &mut arrows);
-    let bits = match decoded.how {
-        How::Done(cursor) => cursor.at,
-        How::Bad(_) => return false,
+    let mut decoded = Decoded::empty();
+    let Ok(end) = reader::read_sheet(sheet, &mut decoded) else {
+        return false;
     };
-    bits == 1319 && decoded.transitions == 25 && sheet.len() == 165 && length == 1084
+    let transitions = decoded.header.transitions;
+    end.at == 1319 && transitions == 25 && sheet.len() == 165 && length == 1084
 }
 
 // All of them, those of the two-contact sheet on the sheet given.

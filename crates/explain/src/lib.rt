@@ -1,7 +1,7 @@
 // What a refusal says to a person: the paper's number, its name and place, and a sentence on where to look.
 #![tactic(auto)]
 
-use answer::{Checked, Refusal};
+use answer::Refusal;
 use std::fmt;
 
 // What the place of a refusal counts.
@@ -138,8 +138,8 @@ pub struct Explained(pub Refusal);
 impl fmt::Display for Explained {
     fn fmt<W: fmt::Write>(&self, f: &mut fmt::Formatter<W>) -> fmt::Result {
         let why = self.0;
-        let number = answer::number_of(Checked::Refused(why));
-        let at = answer::place_of(Checked::Refused(why));
+        let number = why.number();
+        let at = why.place();
         let place = place_of(why);
         write!(f, "refused: {number} {}", name_of(why))?;
         match place {

@@ -1,9 +1,8 @@
 // What is said of a sheet and of code, and the commands that check them.
 #![tactic(auto)]
 
-use answer::{Checked, Refusal};
 use files::Word;
-use reader::{Decoded, How};
+use reader::{Decoded, Header};
 use status::{Fault, Status};
 use std::{fmt, io};
 use text::Count;
@@ -17,10 +16,7 @@ pub const CODE_BYTES: u64 = 65536;
 // What an accepted sheet has.
 #[derive(Clone, Copy, Debug, PartialEq, Eq)]
 struct SheetSize {
-    states: u32,
-    inputs: u32,
-    outputs: u32,
-    transitions: usize,
+    header: Header,
     bits: usize,
 }
 
@@ -30,13 +26,14 @@ fn count(number: u64, noun: &'static str) -> Count {
 
 impl fmt::Display for SheetSize {
     fn fmt<W: fmt::Write>(&self, f: &mut fmt::Formatter<W>) -> fmt::Result {
+        let header = self.header;
         write!(
             f,
             "{}, {}, {}, {}, {}",
-            count(self.states as u64, "state"),
-            count(self.inputs as u64, "input"),
-            count(self.outputs as u64, "output"),
-            count(self.transitions as u64, "transition"),
+            count(u64::from(header.states), "state"),
+            count(u64::from(header.inputs), "input"),
+            count(u64::from(header.outputs), "output"),
+            count(u64::from(header.transitions), "transition"),
             count(self.bits as u64, "bit"),
         )
     }
@@ -54,26 +51,11 @@ impl fmt::Display for CodeSize {
 }
 
 fn size_of(sheet: &[u8]) -> SheetSize {
-    let mut rows = [0u16; 32];
-    let mut arrows = [0u64; 128];
-    let d: Decoded = reader::read_sheet(sheet, &mut rows, &mut arrows);
+    let mut decoded = Decoded::empty();
+    let read = reader::read_sheet(sheet, &mut decoded);
     SheetSize {
-        states: d.states,
-        inputs: d.inputs,
-        outputs: d.outputs,
-        transitions: d.transitions,
-        bits: match d.how {
-            How::Done(c) => c.at,
-            How::Bad(_) => 0,
-        },
-    }
-}
-
-// A verdict as what `?` takes.
-pub fn accepted(verdict: Checked) -> Result<(), Refusal> {
-    match verdict {
-        Checked::Accepted => Ok(()),
-        Checked::Refused(why) => Err(why),
+        header: decoded.header,
+        bits: read.map_or(0, |end| end.at),
     }
 }
 
@@ -93,7 +75,7 @@ pub fn read_file(rt: &HostRuntime, word: &Word, most: u64) -> Result<Vec<u8>, fi
 }
 
 pub fn check_sheet(rt: &HostRuntime, sheet: &[u8]) -> Result<Status, Fault> {
-    accepted(sheet::check_sheet(sheet))?;
+    sheet::check_sheet(sheet)?;
     status::tell(
         rt,
         &mut rt.stdout(),
@@ -109,7 +91,7 @@ pub fn check_command(rt: &HostRuntime, word: &Word) -> Result<Status, Fault> {
 
 pub fn check_code_command(rt: &HostRuntime, word: &Word) -> Result<Status, Fault> {
     let code = read_file(rt, word, CODE_BYTES)?;
-    accepted(faults::check_code(code.as_slice()))?;
+    faults::check_code(code.as_slice())?;
     tell_code(rt, &mut rt.stdout(), "accepted", code.len())?;
     Ok(Status::Accepted)
 }

@@ -3,7 +3,7 @@
 
 use explain::Explained;
 use files::{Word, Wrote};
-use report::{accepted, read_file, tell_code};
+use report::{read_file, tell_code};
 use status::{Fault, Status};
 use std::alloc::Global;
 
@@ -13,7 +13,7 @@ const ROOM: usize = 26028;
 pub fn code_of(alloc: Global, sheet: &[u8]) -> Result<Vec<u8>, Fault> {
     let mut code = vec![in alloc; 0u8; ROOM]?;
     let translated = translate::translate(sheet, code.as_mut_slice());
-    accepted(translated.verdict)?;
+    translated.verdict?;
     code.truncate(translated.length);
     Ok(code)
 }

@@ -3,7 +3,7 @@
 
 use files::Word;
 use options::Options;
-use report::{CODE_BYTES, SHEET_BYTES, accepted, read_file};
+use report::{CODE_BYTES, SHEET_BYTES, read_file};
 use start::{Run, Source, Start};
 use status::{Fault, Status};
 use std::io;
@@ -86,7 +86,7 @@ impl<'a> Request<'a> {
     // The bytes of code that passed its check.
     fn read_code(&self, code: &Word) -> Result<Vec<u8>, Fault> {
         let code = read_file(self.rt, code, CODE_BYTES)?;
-        accepted(faults::check_code(code.as_slice()))?;
+        faults::check_code(code.as_slice())?;
         Ok(code)
     }
 
@@ -100,7 +100,7 @@ impl<'a> Request<'a> {
     fn run_beside(&self, sheet: &Word, code: &Word) -> Result<Status, Fault> {
         let sheet = read_file(self.rt, sheet, SHEET_BYTES)?;
         let sheet = sheet.as_slice();
-        accepted(sheet::check_sheet(sheet))?;
+        sheet::check_sheet(sheet)?;
         let code = self.read_code(code)?;
         self.play(Run::beside(sheet, code.as_slice(), Source::Given, self.start)?)
     }

@@ -4,7 +4,7 @@
 
 ghost use Rattle.std.specs.Prelude.{◌≡◌, ◌^◌, IfSome};
 
-use answer::{Checked, Refusal};
+use answer::Refusal;
 use machine::Record;
 use reader::Decoded;
 use scan::State;
@@ -87,13 +87,6 @@ impl fmt::Display for Difference {
     }
 }
 
-fn accepted(verdict: Checked) -> Result<(), Refusal> {
-    match verdict {
-        Checked::Accepted => Ok(()),
-        Checked::Refused(why) => Err(why),
-    }
-}
-
 // The flag of a state's number, if there is one.
 fn flag_of(state: u8) -> Option<u32>
     ensures { IfSome result (λ flag. flag ≡ 2 ^ state) }
@@ -101,12 +94,11 @@ fn flag_of(state: u8) -> Option<u32>
     if state < 32 { Some(1 << state) } else { None }
 }
 
-// A sheet's header, and its rows of outputs.
-fn read(sheet: &[u8]) -> (Decoded, [u16; 32]) {
-    let mut rows = [0u16; 32];
-    let mut arrows = [0u64; 128];
-    let decoded = reader::read_sheet(sheet, &mut rows, &mut arrows);
-    (decoded, rows)
+// An accepted sheet, decoded.
+fn read(sheet: &[u8]) -> Decoded {
+    let mut decoded = Decoded::empty();
+    let _ = reader::read_sheet(sheet, &mut decoded);
+    decoded
 }
 
 // Whether the runner's record is the reference's: its one flag is the state's, outputs and clock are the same.
@@ -124,14 +116,14 @@ impl<'a> Run<'a> {
         source: Source,
         start: Option<Start>,
     ) -> Result<Self, Refusal> {
-        let (header, rows) = read(sheet);
+        let Decoded { header, rows, .. } = read(sheet);
         let (record, state) = match start {
             None => (
                 translate::cold_run(sheet).record,
                 scan::cold_scan(sheet).record,
             ),
             Some(start) => {
-                accepted(scan::scan(sheet, start.reference(0), 0, 0).verdict)?;
+                scan::scan(sheet, start.reference(0), 0, 0).verdict?;
                 let outputs = rows.get(start.state as usize).copied().unwrap_or(0);
                 (start.record(outputs), start.reference(outputs))
             }
@@ -198,7 +190,7 @@ impl<'a> Run<'a> {
             entry.elapsed,
         );
         reference.state = referred.record;
-        accepted(referred.verdict).is_ok() && agree(self.record, referred.record)
+        referred.verdict.is_ok() && agree(self.record, referred.record)
     }
 
     // One scan, by the code and, where there is one, by the reference.
@@ -208,7 +200,7 @@ impl<'a> Run<'a> {
         self.time = self.time.saturating_add(u64::from(entry.elapsed));
         let ran = machine::run(self.code, self.record, entry.inputs, entry.elapsed);
         self.record = ran.record;
-        if accepted(ran.verdict).is_err() || !self.compare(entry) {
+        if ran.verdict.is_err() || !self.compare(entry) {
             return Err(self.difference());
         }
         Ok(if before == self.record.flags {
