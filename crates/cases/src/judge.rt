@@ -1,159 +1,226 @@
-// One stored case: the call is made, and its whole answer is compared. A case is its 48 bytes of fields, the bytes given,
-// and the bytes of code answered.
-ghost use Rattle.std.specs.Prelude.{◌<◌};
-
+// One stored case: the call is made, and its whole answer is compared.
 use answer::Checked;
 use machine::Record;
-use scan::{Scanned, State};
+use scan::State;
+use std::fmt;
 
 // The byte that the buffer of a translation is filled with before the call.
 const FILL: u8 = 165;
 
-fn wide(b: u8) -> u32
-    ensures { result < 256 }
-{
-    b as u32
+// The most room that a case gives a translation.
+const ROOM: usize = 32768;
+
+// What a case asks.
+#[derive(Clone, Copy, Debug, PartialEq, Eq)]
+pub enum Call {
+    CheckSheet,
+    CheckCode,
+    Translate,
+    ColdScan,
+    ColdRun,
+    Scan,
+    Run,
 }
 
-pub fn byte_at(s: &[u8], at: usize) -> u32
-    ensures { result < 256 }
-{
-    if at < s.len() {
-        return wide(s[at]);
+impl Call {
+    pub const ALL: [Call; 7] = [
+        Call::CheckSheet,
+        Call::CheckCode,
+        Call::Translate,
+        Call::ColdScan,
+        Call::ColdRun,
+        Call::Scan,
+        Call::Run,
+    ];
+
+    // The call of a number in the file, from 1 on.
+    fn of(number: u8) -> Option<Call> {
+        let at = usize::from(number).checked_sub(1)?;
+        Call::ALL.get(at).copied()
     }
-    0
 }
 
-// The number at a field of two bytes.
-fn half(s: &[u8], at: usize) -> u16
-    requires { at < 1000 }
-{
-    (byte_at(s, at) * 256 + byte_at(s, at + 1)) as u16
+impl fmt::Display for Call {
+    fn fmt<W: fmt::Write>(&self, f: &mut fmt::Formatter<W>) -> fmt::Result {
+        f.write_str(match self {
+            Call::CheckSheet => "check_sheet",
+            Call::CheckCode => "check_code",
+            Call::Translate => "translate",
+            Call::ColdScan => "cold_scan",
+            Call::ColdRun => "cold_run",
+            Call::Scan => "scan",
+            Call::Run => "run",
+        })
+    }
 }
 
-// The number at a field of four bytes.
-pub fn word(s: &[u8], at: usize) -> u32
-    requires { at < 1000 }
-{
-    (byte_at(s, at) * 256 + byte_at(s, at + 1)) * 65536
-        + byte_at(s, at + 2) * 256
-        + byte_at(s, at + 3)
+// A record, whose word is a state's number or a flag word.
+#[derive(Clone, Copy, Debug, PartialEq, Eq)]
+struct Numbers {
+    word: u32,
+    outputs: u16,
+    clock: u32,
 }
 
-// Whether the verdict has the number and the place of the case.
-fn verdict_agrees(fields: &[u8], verdict: Checked) -> bool {
-    (answer::number_of(verdict) == byte_at(fields, 1))
-        & (answer::place_of(verdict) as u64 == word(fields, 4) as u64)
-}
-
-// The state's number of a record given, which has a byte.
-fn state_given(fields: &[u8]) -> State {
-    scan::state_with(
-        (word(fields, 12) % 256) as u8,
-        half(fields, 20),
-        word(fields, 16),
-    )
-}
-
-fn record_given(fields: &[u8]) -> Record {
-    machine::record_with(word(fields, 12), half(fields, 20), word(fields, 16))
-}
-
-fn scan_agrees(fields: &[u8], s: Scanned) -> bool {
-    let verdict = s.verdict;
-    let r = s.record;
-    let record = (r.state as u32 == word(fields, 24))
-        & (r.outputs == half(fields, 22))
-        & (r.clock == word(fields, 28));
-    record & verdict_agrees(fields, verdict)
-}
-
-fn run_agrees(fields: &[u8], verdict: Checked, r: Record) -> bool {
-    let record = (r.flags == word(fields, 24))
-        & (r.outputs == half(fields, 22))
-        & (r.clock == word(fields, 28));
-    record & verdict_agrees(fields, verdict)
-}
-
-// Whether all bytes are as they were before the call.
-fn all_filled(s: &[u8]) -> bool {
-    for b in s {
-        if *b != FILL {
-            return false;
+impl From<State> for Numbers {
+    fn from(r: State) -> Numbers {
+        Numbers {
+            word: u32::from(r.state),
+            outputs: r.outputs,
+            clock: r.clock,
         }
     }
-    true
 }
 
-// Whether the bytes begin with the code, and after it are as they were.
-fn holds(buffer: &[u8], written: &[u8]) -> bool {
-    let n = written.len();
-    if buffer.len() < n {
-        return false;
+impl From<Record> for Numbers {
+    fn from(r: Record) -> Numbers {
+        Numbers {
+            word: r.flags,
+            outputs: r.outputs,
+            clock: r.clock,
+        }
     }
-    if !text::same(&buffer[0..n], written) {
-        return false;
+}
+
+// A case: what is given, and what is to be answered.
+#[derive(Clone, Copy)]
+pub struct Case<'a> {
+    pub call: Option<Call>,
+    pub number: u8,
+    place: u32,
+    inputs: u16,
+    elapsed: u32,
+    given: Numbers,
+    answered: Numbers,
+    room: u32,
+    length: u32,
+    bytes: &'a [u8],
+    written: &'a [u8],
+}
+
+// The next bytes, which are taken off.
+fn next<const N: usize>(rest: &mut &[u8]) -> Option<[u8; N]> {
+    let (field, after) = rest.split_first_chunk::<N>()?;
+    *rest = after;
+    Some(*field)
+}
+
+fn half(rest: &mut &[u8]) -> Option<u16> {
+    Some(u16::from_be_bytes(next::<2>(rest)?))
+}
+
+pub fn word(rest: &mut &[u8]) -> Option<u32> {
+    Some(u32::from_be_bytes(next::<4>(rest)?))
+}
+
+impl<'a> Case<'a> {
+    // The case at the front, and what follows it, if it is wholly there.
+    pub fn split(all: &'a [u8]) -> Option<(Self, &'a [u8])> {
+        let mut rest = all;
+        let [call, number] = next::<2>(&mut rest)?;
+        let inputs = half(&mut rest)?;
+        let place = word(&mut rest)?;
+        let elapsed = word(&mut rest)?;
+        let given_word = word(&mut rest)?;
+        let given_clock = word(&mut rest)?;
+        let given_outputs = half(&mut rest)?;
+        let outputs = half(&mut rest)?;
+        let answered = Numbers {
+            word: word(&mut rest)?,
+            outputs,
+            clock: word(&mut rest)?,
+        };
+        let room = word(&mut rest)?;
+        let length = word(&mut rest)?;
+        let bytes = word(&mut rest)? as usize;
+        let written = word(&mut rest)? as usize;
+        let (bytes, rest) = rest.split_at_checked(bytes)?;
+        let (written, rest) = rest.split_at_checked(written)?;
+        let case = Case {
+            call: Call::of(call),
+            number,
+            place,
+            inputs,
+            elapsed,
+            given: Numbers {
+                word: given_word,
+                outputs: given_outputs,
+                clock: given_clock,
+            },
+            answered,
+            room,
+            length,
+            bytes,
+            written,
+        };
+        Some((case, rest))
     }
-    all_filled(&buffer[n..])
-}
 
-fn buffer_holds(buffer: &[u8; 32768], written: &[u8]) -> bool {
-    holds(buffer, written)
-}
-
-pub fn translation_agrees(fields: &[u8], sheet: &[u8], written: &[u8]) -> bool {
-    let mut buffer = [FILL; 32768];
-    let room = word(fields, 32) as usize;
-    if 32768 < room {
-        return false;
+    // Whether the verdict has the number and the place of the case.
+    fn is_answered(&self, verdict: Checked) -> bool {
+        answer::number_of(verdict) == u32::from(self.number)
+            && answer::place_of(verdict) as u64 == u64::from(self.place)
     }
-    let t = translate::translate(sheet, &mut buffer[0..room]);
-    let verdict = t.verdict;
-    let length = t.length;
-    if length as u64 != word(fields, 36) as u64 {
-        return false;
+
+    // The same, and the record that the case answers.
+    fn is_reached<R: Into<Numbers> + Drop>(&self, verdict: Checked, record: R) -> bool {
+        self.is_answered(verdict) && record.into() == self.answered
     }
-    if !verdict_agrees(fields, verdict) {
-        return false;
+
+    // A state's number has a byte.
+    fn state(&self) -> State {
+        let state = (self.given.word % 256) as u8;
+        scan::state_with(state, self.given.outputs, self.given.clock)
     }
-    buffer_holds(&buffer, written)
-}
 
-fn cold_scan_agrees(fields: &[u8], sheet: &[u8]) -> bool {
-    let s = scan::cold_scan(sheet);
-    scan_agrees(fields, s)
-}
+    fn record(&self) -> Record {
+        machine::record_with(self.given.word, self.given.outputs, self.given.clock)
+    }
 
-fn cold_run_agrees(fields: &[u8], sheet: &[u8]) -> bool {
-    let c = translate::cold_run(sheet);
-    let verdict = c.verdict;
-    let record = c.record;
-    run_agrees(fields, verdict, record)
-}
+    // Whether the buffer begins with the code, and after it is as it was before the call.
+    fn is_written(&self, buffer: &[u8]) -> bool {
+        match buffer.strip_prefix(self.written) {
+            Some(rest) => rest.iter().all(|b| *b == FILL),
+            None => false,
+        }
+    }
 
-fn scan_call_agrees(fields: &[u8], sheet: &[u8]) -> bool {
-    let s = scan::scan(sheet, state_given(fields), half(fields, 2), word(fields, 8));
-    scan_agrees(fields, s)
-}
+    fn translates(&self) -> bool {
+        let mut buffer = [FILL; ROOM];
+        let Some(room) = buffer.get_mut(..self.room as usize) else {
+            return false;
+        };
+        let translated = translate::translate(self.bytes, room);
+        translated.length as u64 == u64::from(self.length)
+            && self.is_answered(translated.verdict)
+            && self.is_written(&buffer)
+    }
 
-fn run_call_agrees(fields: &[u8], code: &[u8]) -> bool {
-    let r = machine::run(code, record_given(fields), half(fields, 2), word(fields, 8));
-    let verdict = r.verdict;
-    let record = r.record;
-    run_agrees(fields, verdict, record)
-}
-
-// Whether the call of the case answers as the case says.
-pub fn agrees(fields: &[u8], given: &[u8], written: &[u8]) -> bool {
-    let call = byte_at(fields, 0);
-    match call {
-        1 => verdict_agrees(fields, sheet::check_sheet(given)),
-        2 => verdict_agrees(fields, faults::check_code(given)),
-        3 => translation_agrees(fields, given, written),
-        4 => cold_scan_agrees(fields, given),
-        5 => cold_run_agrees(fields, given),
-        6 => scan_call_agrees(fields, given),
-        7 => run_call_agrees(fields, given),
-        _ => false,
+    // Whether the call of the case answers as the case says.
+    pub fn agrees(&self) -> bool {
+        let Some(call) = self.call else {
+            return false;
+        };
+        match call {
+            Call::CheckSheet => self.is_answered(sheet::check_sheet(self.bytes)),
+            Call::CheckCode => self.is_answered(faults::check_code(self.bytes)),
+            Call::Translate => self.translates(),
+            Call::ColdScan => {
+                let cold = scan::cold_scan(self.bytes);
+                self.is_reached(cold.verdict, cold.record)
+            }
+            Call::ColdRun => {
+                let cold = translate::cold_run(self.bytes);
+                self.is_reached(cold.verdict, cold.record)
+            }
+            Call::Scan => {
+                let done = scan::scan(self.bytes, self.state(), self.inputs, self.elapsed);
+                self.is_reached(done.verdict, done.record)
+            }
+            Call::Run => {
+                let done = machine::run(self.bytes, self.record(), self.inputs, self.elapsed);
+                self.is_reached(done.verdict, done.record)
+            }
+        }
     }
 }

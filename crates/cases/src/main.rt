@@ -8,12 +8,13 @@ mod paper;
 mod say;
 mod tally;
 
+use say::Report;
+
 fn main(rt: HostRuntime) {
-    let mut sheet = [0u8; 256];
-    let n = file::load(&rt, b"two-contact.sheet", &mut sheet);
-    let worked = paper::all(&rt, &sheet, n);
-    let mut cases = [0u8; 307200];
-    let m = file::load(&rt, b"cases.bin", &mut cases);
-    let stored = file::all(&rt, &cases, m);
-    say::total(&rt, worked, stored);
+    let mut report = Report::new(&rt);
+    let sheet = file::load(&rt, "two-contact.sheet", 256);
+    paper::judge_all(&mut report, sheet.as_slice());
+    let cases = file::load(&rt, "cases.bin", file::ROOM);
+    file::judge_all(&mut report, cases.as_slice());
+    report.total();
 }

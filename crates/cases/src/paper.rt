@@ -1,10 +1,26 @@
 // The paper's worked cases, P1 to P14, and those that stand below them.
-use crate::tally::Tally;
-use crate::{say, tally};
+use crate::say::Report;
 use answer::Checked;
-use machine::{Ran, Record};
-use reader::How;
-use scan::Scanned;
+use machine::Record;
+use reader::Decoded;
+use scan::State;
+
+// M, which is accepted.
+const M: [u8; 9] = [8, 0, 8, 32, 0, 0, 0, 0, 128];
+
+// Sheets, most of them M with a change, each with the number and the place that it is answered.
+const JUDGED: [(&str, &[u8], u32, usize); 10] = [
+    ("P1", &[], 1, 0),
+    ("P2", &[0], 2, 0),
+    ("P5", &[8, 0, 8, 32, 0, 0, 0, 0, 128, 0], 6, 71),
+    ("P6", &[8, 0, 8, 32, 0, 0, 0, 0], 1, 63),
+    ("P3", &M, 0, 0),
+    ("P4", &[8, 0, 8, 32, 0, 0, 0, 0, 129], 6, 71),
+    ("P7", &[8, 0, 8, 64, 0, 0, 0, 0, 128], 3, 22),
+    ("P8", &[8, 0, 8, 0, 0, 0, 0, 0, 128], 7, 0),
+    ("P9", &[8, 0, 0, 32, 0, 0, 0, 0, 128], 13, 0),
+    ("P10", &[8, 0, 8, 32, 0, 0, 0, 0, 130], 4, 67),
+];
 
 // P11: the code of M.
 const CODE_OF_M: [u8; 64] = [
@@ -13,233 +29,171 @@ const CODE_OF_M: [u8; 64] = [
     15, 0, 0, 0, 0,
 ];
 
-// P12: the scans, and what each is to reach.
-const INPUTS: [u16; 8] = [1, 3, 3, 3, 7, 1, 7, 6];
+// A scan: its inputs and its elapsed ms, and the state and the clock that it is to reach.
+#[derive(Clone, Copy, Debug)]
+struct Turn(u16, u32, u8, u32);
 
-const TIMES: [u32; 8] = [10, 10, 99, 1, 10, 10, 10, 5];
-
-const STATES: [u8; 8] = [1, 3, 3, 5, 5, 1, 8, 0];
-
-// The same as flag words.
-const FLAGS: [u32; 8] = [2, 8, 8, 32, 32, 2, 256, 1];
-
-const CLOCKS: [u32; 8] = [0, 0, 99, 0, 10, 0, 0, 0];
-
-// M with three of its bytes free.
-fn m(second: u8, third: u8, eighth: u8) -> [u8; 9] {
-    [8, 0, second, third, 0, 0, 0, 0, eighth]
-}
+// Scans of the two-contact sheet, from cold or from a state and a clock.
+const SCANS: [(&str, Option<(u8, u32)>, &[Turn]); 5] = [
+    (
+        "P12",
+        None,
+        &[
+            Turn(1, 10, 1, 0),
+            Turn(3, 10, 3, 0),
+            Turn(3, 99, 3, 99),
+            Turn(3, 1, 5, 0),
+            Turn(7, 10, 5, 10),
+            Turn(1, 10, 1, 0),
+            Turn(7, 10, 8, 0),
+            Turn(6, 5, 0, 0),
+        ],
+    ),
+    ("P13", Some((3, 99)), &[Turn(7, 1, 5, 0)]),
+    ("P14", Some((3, 99)), &[Turn(7, 0, 8, 0)]),
+    ("from cold 111/10", Some((0, 0)), &[Turn(7, 10, 1, 0)]),
+    ("in state 0 011/50", Some((0, 7)), &[Turn(6, 50, 0, 57)]),
+];
 
 fn is(verdict: Checked, number: u32, place: usize) -> bool {
-    (answer::number_of(verdict) == number) & (answer::place_of(verdict) == place)
+    answer::number_of(verdict) == number && answer::place_of(verdict) == place
 }
 
-fn judges(sheet: &[u8], number: u32, place: usize) -> bool {
-    is(sheet::check_sheet(sheet), number, place)
+// What makes scans of the two-contact sheet: its reference, or its code.
+trait Runner {
+    fn name(&self) -> &'static str;
+
+    fn begin_cold(&mut self);
+
+    fn begin_at(&mut self, state: u8, outputs: u16, clock: u32);
+
+    // Makes a scan: whether it is accepted, and reaches what it is to reach.
+    fn reaches(&mut self, turn: Turn) -> bool;
 }
 
-// M with its bytes changed.
-fn judges_m(second: u8, third: u8, eighth: u8, number: u32, place: usize) -> bool {
-    let sheet = m(second, third, eighth);
-    judges(&sheet, number, place)
+#[derive(Clone, Copy)]
+struct Reference<'a> {
+    sheet: &'a [u8],
+    record: State,
 }
 
-// P1, P2, P5 and P6: other lengths.
-fn lengths(rt: &HostRuntime, t: Tally) -> Tally {
-    let ten = [8u8, 0, 8, 32, 0, 0, 0, 0, 128, 0];
-    let all: &[u8] = &ten;
-    let zero = [0u8];
-    let a = say::worked(rt, t, b"P1", judges(&all[0..0], 1, 0));
-    let b = say::worked(rt, a, b"P2", judges(&zero, 2, 0));
-    let c = say::worked(rt, b, b"P5", judges(all, 6, 71));
-    say::worked(rt, c, b"P6", judges(&all[0..8], 1, 63))
+impl Runner for Reference<'_> {
+    fn name(&self) -> &'static str {
+        "reference"
+    }
+
+    fn begin_cold(&mut self) {
+        self.record = scan::cold_scan(self.sheet).record;
+    }
+
+    fn begin_at(&mut self, state: u8, outputs: u16, clock: u32) {
+        self.record = scan::state_with(state, outputs, clock);
+    }
+
+    fn reaches(&mut self, turn: Turn) -> bool {
+        let Turn(inputs, elapsed, state, clock) = turn;
+        let done = scan::scan(self.sheet, self.record, inputs, elapsed);
+        self.record = done.record;
+        is(done.verdict, 0, 0) && self.record.state == state && self.record.clock == clock
+    }
 }
 
-// P3, P4 and P7 to P10: other bytes.
-fn changes(rt: &HostRuntime, t: Tally) -> Tally {
-    let a = say::worked(rt, t, b"P3", judges_m(8, 32, 128, 0, 0));
-    let b = say::worked(rt, a, b"P4", judges_m(8, 32, 129, 6, 71));
-    let c = say::worked(rt, b, b"P7", judges_m(8, 64, 128, 3, 22));
-    let d = say::worked(rt, c, b"P8", judges_m(8, 0, 128, 7, 0));
-    let e = say::worked(rt, d, b"P9", judges_m(0, 32, 128, 13, 0));
-    say::worked(rt, e, b"P10", judges_m(8, 32, 130, 4, 67))
+#[derive(Clone, Copy)]
+struct Code<'a> {
+    sheet: &'a [u8],
+    code: &'a [u8],
+    record: Record,
+}
+
+fn flag_of(state: u8) -> u32 {
+    if state < 32 { 1 << state } else { 0 }
+}
+
+impl Runner for Code<'_> {
+    fn name(&self) -> &'static str {
+        "code"
+    }
+
+    fn begin_cold(&mut self) {
+        self.record = translate::cold_run(self.sheet).record;
+    }
+
+    fn begin_at(&mut self, state: u8, outputs: u16, clock: u32) {
+        self.record = machine::record_with(flag_of(state), outputs, clock);
+    }
+
+    fn reaches(&mut self, turn: Turn) -> bool {
+        let Turn(inputs, elapsed, state, clock) = turn;
+        let done = machine::run(self.code, self.record, inputs, elapsed);
+        self.record = done.record;
+        is(done.verdict, 0, 0) && self.record.flags == flag_of(state) && self.record.clock == clock
+    }
+}
+
+// In state 0 the outputs are Ready alone, in the others that a case begins in activity alone.
+fn runs<R: Runner>(runner: &mut R, from: Option<(u8, u32)>, turns: &[Turn]) -> bool {
+    match from {
+        None => runner.begin_cold(),
+        Some((state, clock)) => {
+            runner.begin_at(state, if state == 0 { 1 } else { 2 }, clock);
+        }
+    }
+    for turn in turns {
+        if !runner.reaches(*turn) {
+            return false;
+        }
+    }
+    true
+}
+
+fn judge_scans<R: Runner>(report: &mut Report, runner: &mut R) {
+    for (name, from, turns) in SCANS {
+        let agrees = runs(runner, from, turns);
+        report.worked(format_args!("{name}, {}", runner.name()), agrees);
+    }
 }
 
 // P11, with room for the code.
 fn translates() -> bool {
-    let sheet = m(8, 32, 128);
     let mut buffer = [0u8; 64];
-    let t = translate::translate(&sheet, &mut buffer);
-    let verdict = t.verdict;
-    is(verdict, 0, 0) & (t.length == 64) & text::same(&buffer, &CODE_OF_M)
+    let made = translate::translate(&M, &mut buffer);
+    is(made.verdict, 0, 0) && made.length == 64 && buffer == CODE_OF_M
 }
 
 // P11, with a byte too little: nothing is written.
 fn lacks_room() -> bool {
-    let sheet = m(8, 32, 128);
-    let zeros = [0u8; 63];
     let mut buffer = [0u8; 63];
-    let t = translate::translate(&sheet, &mut buffer);
-    let verdict = t.verdict;
-    is(verdict, 14, 64) & (t.length == 0) & text::same(&buffer, &zeros)
-}
-
-fn reaches(s: &Scanned, state: u8, clock: u32) -> bool {
-    let verdict = s.verdict;
-    let r = s.record;
-    is(verdict, 0, 0) & (r.state == state) & (r.clock == clock)
-}
-
-// A scan of the reference on the two-contact sheet, from a state whose outputs are Ready alone, or activity alone.
-fn scan_reaches(
-    sheet: &[u8],
-    from: u8,
-    clock: u32,
-    inputs: u16,
-    elapsed: u32,
-    state: u8,
-    after: u32,
-) -> bool {
-    let outputs: u16 = if from == 0 { 1 } else { 2 };
-    let given = scan::state_with(from, outputs, clock);
-    let scanned = scan::scan(sheet, given, inputs, elapsed);
-    reaches(&scanned, state, after)
-}
-
-// P12 by the reference.
-fn scans(sheet: &[u8]) -> bool {
-    let cold = scan::cold_scan(sheet);
-    let mut record = cold.record;
-    for i in 0..8 {
-        let s = scan::scan(sheet, record, INPUTS[i], TIMES[i]);
-        if !reaches(&s, STATES[i], CLOCKS[i]) {
-            return false;
-        }
-        record = s.record;
-    }
-    true
-}
-
-fn comes_to(r: &Ran, flags: u32, clock: u32) -> bool {
-    let verdict = r.verdict;
-    let record = r.record;
-    is(verdict, 0, 0) & (record.flags == flags) & (record.clock == clock)
-}
-
-// The same scan by the code.
-fn run_reaches(
-    code: &[u8],
-    from: u32,
-    clock: u32,
-    inputs: u16,
-    elapsed: u32,
-    flags: u32,
-    after: u32,
-) -> bool {
-    let outputs: u16 = if from == 1 { 1 } else { 2 };
-    let given = machine::record_with(from, outputs, clock);
-    let ran = machine::run(code, given, inputs, elapsed);
-    comes_to(&ran, flags, after)
-}
-
-// P12 by the code.
-fn runs(sheet: &[u8], code: &[u8]) -> bool {
-    let cold = translate::cold_run(sheet);
-    let mut record = cold.record;
-    for i in 0..8 {
-        let r = machine::run(code, record, INPUTS[i], TIMES[i]);
-        if !comes_to(&r, FLAGS[i], CLOCKS[i]) {
-            return false;
-        }
-        record = r.record;
-    }
-    true
-}
-
-// P12, P13, P14 and the two below them, by the reference.
-fn by_reference(rt: &HostRuntime, t: Tally, sheet: &[u8]) -> Tally {
-    let a = say::worked(rt, t, b"P12, reference", scans(sheet));
-    let b = say::worked(
-        rt,
-        a,
-        b"P13, reference",
-        scan_reaches(sheet, 3, 99, 7, 1, 5, 0),
-    );
-    let c = say::worked(
-        rt,
-        b,
-        b"P14, reference",
-        scan_reaches(sheet, 3, 99, 7, 0, 8, 0),
-    );
-    let d = say::worked(
-        rt,
-        c,
-        b"from cold 111/10, reference",
-        scan_reaches(sheet, 0, 0, 7, 10, 1, 0),
-    );
-    say::worked(
-        rt,
-        d,
-        b"in state 0 011/50, reference",
-        scan_reaches(sheet, 0, 7, 6, 50, 0, 57),
-    )
-}
-
-// The same by the code.
-fn by_code(rt: &HostRuntime, t: Tally, sheet: &[u8], code: &[u8]) -> Tally {
-    let a = say::worked(rt, t, b"P12, code", runs(sheet, code));
-    let b = say::worked(rt, a, b"P13, code", run_reaches(code, 8, 99, 7, 1, 32, 0));
-    let c = say::worked(rt, b, b"P14, code", run_reaches(code, 8, 99, 7, 0, 256, 0));
-    let d = say::worked(
-        rt,
-        c,
-        b"from cold 111/10, code",
-        run_reaches(code, 1, 0, 7, 10, 2, 0),
-    );
-    say::worked(
-        rt,
-        d,
-        b"in state 0 011/50, code",
-        run_reaches(code, 1, 7, 6, 50, 1, 57),
-    )
+    let made = translate::translate(&M, &mut buffer);
+    is(made.verdict, 14, 64) && made.length == 0 && buffer == [0u8; 63]
 }
 
 // The two-contact sheet: 25 transitions, 1,319 bits, 165 bytes and 271 words of code.
 fn has_its_sizes(sheet: &[u8], length: usize) -> bool {
-    let mut rows = [0u16; 32];
-    let mut lines = [0u64; 128];
-    let d = reader::read_sheet(sheet, &mut rows, &mut lines);
-    let how = d.how;
-    match how {
-        How::Done(c) => (c.at == 1319)
-            & (d.transitions == 25)
-            & (sheet.len() == 165)
-            & (length == 1084),
-        How::Bad(_) => false,
-    }
+    let mut decoded = Decoded::empty();
+    let Ok(end) = reader::read_sheet(sheet, &mut decoded) else {
+        return false;
+    };
+    let transitions = decoded.header.transitions;
+    end.at == 1319 && transitions == 25 && sheet.len() == 165 && length == 1084
 }
 
-fn two_contact(rt: &HostRuntime, t: Tally, sheet: &[u8]) -> Tally {
+// All of them, those of the two-contact sheet on the sheet given.
+pub fn judge_all(report: &mut Report, sheet: &[u8]) {
+    for (name, sheet, number, place) in JUDGED {
+        report.worked(name, is(sheet::check_sheet(sheet), number, place));
+    }
+    report.worked("P11", translates());
+    report.worked("P11 with 63 bytes of room", lacks_room());
     let mut code = [0u8; 1084];
     let made = translate::translate(sheet, &mut code);
-    let a = say::worked(
-        rt,
-        t,
-        b"two-contact sheet",
-        has_its_sizes(sheet, made.length),
-    );
-    let b = by_reference(rt, a, sheet);
-    by_code(rt, b, sheet, &code)
-}
-
-// All of them; the two-contact sheet is the first n bytes of those given.
-pub fn all(rt: &HostRuntime, given: &[u8], n: usize) -> Tally {
-    let a = lengths(rt, tally::nothing());
-    let b = changes(rt, a);
-    let c = say::worked(rt, b, b"P11", translates());
-    let d = say::worked(rt, c, b"P11 with 63 bytes of room", lacks_room());
-    if given.len() < n {
-        return tally::counted(d, false);
-    }
-    two_contact(rt, d, &given[0..n])
+    report.worked("two-contact sheet", has_its_sizes(sheet, made.length));
+    let record = scan::state_with(0, 0, 0);
+    judge_scans(report, &mut Reference { sheet, record });
+    let record = machine::record_with(0, 0, 0);
+    let mut by_code = Code {
+        sheet,
+        code: &code,
+        record,
+    };
+    judge_scans(report, &mut by_code);
 }

@@ -3,13 +3,13 @@
 
 mod demo;
 mod help;
-mod show;
 
+use files::Word;
 use options::Options;
-use std::env::{Env, FillError};
+use status::{Fault, Status};
 use std::process::ExitCode;
 
-#[derive(Clone, Copy)]
+#[derive(Clone, Copy, Debug, PartialEq, Eq)]
 enum Command {
     Check,
     Translate,
@@ -17,176 +17,96 @@ enum Command {
     Demo,
     Help,
     Version,
-    Missing,
-    Unknown,
 }
 
-fn is_help(word: &[u8]) -> bool {
-    if text::same(word, b"help") {
-        return true;
-    }
-    if text::same(word, b"--help") {
-        return true;
-    }
-    text::same(word, b"-h")
-}
-
-fn is_version(word: &[u8]) -> bool {
-    if text::same(word, b"version") {
-        return true;
-    }
-    text::same(word, b"--version")
-}
-
-fn command_of(word: &[u8]) -> Command {
-    if text::same(word, b"check") {
-        return Command::Check;
-    }
-    if text::same(word, b"translate") {
-        return Command::Translate;
-    }
-    if text::same(word, b"run") {
-        return Command::Run;
-    }
-    if text::same(word, b"demo") {
-        return Command::Demo;
-    }
-    if is_help(word) {
-        return Command::Help;
-    }
-    if is_version(word) {
-        return Command::Version;
-    }
-    Command::Unknown
-}
-
-// The command at a word, which is missing where there is none.
-fn command_at(rt: &HostRuntime, word: usize) -> Command {
-    let mut text = [0u8; 16];
-    match rt.arg(word, &mut text) {
-        Ok(n) => command_of(&text[..n]),
-        Err(FillError::TooLong) => Command::Unknown,
-        Err(FillError::NotPresent) => Command::Missing,
+fn command_of(word: &[u8]) -> Option<Command> {
+    match word {
+        b"check" => Some(Command::Check),
+        b"translate" => Some(Command::Translate),
+        b"run" => Some(Command::Run),
+        b"demo" => Some(Command::Demo),
+        b"help" | b"--help" | b"-h" => Some(Command::Help),
+        b"version" | b"--version" => Some(Command::Version),
+        _ => None,
     }
 }
 
-fn check_with(rt: &HostRuntime, o: Options) -> u8 {
-    if (o.sheet != 0) | (o.state != 0) | (o.clock != 0) | (o.second != 0) {
-        return check_usage(rt);
+fn check(rt: &HostRuntime, o: &Options) -> Result<Status, Fault> {
+    let is_run = o.sheet.is_some() || o.state.is_some() || o.clock.is_some();
+    match (o.code, o.files.as_slice()) {
+        (Some(code), []) if !is_run => report::check_code_command(rt, code),
+        (None, [sheet]) if !is_run => report::check_command(rt, sheet),
+        _ => Err(Fault::Usage("check takes one file: chz check SHEET, or chz check --code CODE")),
     }
-    if (o.code != 0) & (o.first == 0) {
-        return report::check_code_command(rt, o.code);
-    }
-    if (o.code == 0) & (o.first != 0) {
-        return report::check_command(rt, o.first);
-    }
-    check_usage(rt)
 }
 
-fn check_usage(rt: &HostRuntime) -> u8 {
-    status::usage_fault(
-        rt,
-        b"check takes one file: chz check SHEET, or chz check --code CODE",
-    )
+fn translate(rt: &HostRuntime, o: &Options) -> Result<Status, Fault> {
+    match o.files.as_slice() {
+        [sheet, code] if o.is_plain() => rewrite::translate_command(rt, sheet, code),
+        _ => Err(Fault::Usage("translate takes two files: chz translate SHEET CODE")),
+    }
 }
 
-fn is_plain(o: Options) -> bool {
-    (o.code == 0) & (o.sheet == 0) & (o.state == 0) & (o.clock == 0)
+// That a command is given nothing.
+fn alone(o: &Options, usage: &'static str) -> Result<(), Fault> {
+    if o.is_plain() && o.files.is_empty() {
+        return Ok(());
+    }
+    Err(Fault::Usage(usage))
 }
 
-fn translate_with(rt: &HostRuntime, o: Options) -> u8 {
-    if is_plain(o) & (o.second != 0) & (o.third == 0) {
-        return rewrite::translate_command(rt, o.first, o.second);
-    }
-    status::usage_fault(rt, b"translate takes two files: chz translate SHEET CODE")
-}
-
-// The trace alone, or the sheet and the trace.
-fn run_with(rt: &HostRuntime, o: Options) -> u8 {
-    let named = (o.code != 0) | (o.sheet != 0);
-    if named & (o.first != 0) & (o.second == 0) {
-        return running::run_command(rt, o.sheet, o, o.first);
-    }
-    if !named & (o.second != 0) & (o.third == 0) {
-        return running::run_command(rt, o.first, o, o.second);
-    }
-    status::usage_fault(
-        rt,
-        b"run takes a sheet and a trace: chz run SHEET TRACE, or chz run --code CODE TRACE",
-    )
-}
-
-fn demo_with(rt: &HostRuntime, o: Options) -> u8 {
-    if is_plain(o) & (o.first == 0) {
-        return show::demo_command(rt);
-    }
-    status::usage_fault(rt, b"demo takes no file")
-}
-
-fn help_with(rt: &HostRuntime, o: Options) -> u8 {
-    if is_plain(o) & (o.first == 0) {
-        return help::help_command(rt);
-    }
-    status::usage_fault(rt, b"help takes no file")
-}
-
-fn version_with(rt: &HostRuntime, o: Options) -> u8 {
-    if is_plain(o) & (o.first == 0) {
-        return help::version_command(rt);
-    }
-    status::usage_fault(rt, b"version takes no file")
-}
-
-// Runs a command whose words are these.
-fn run_command(rt: &HostRuntime, command: Command, word: usize, o: Options) -> u8 {
-    if o.unknown != 0 {
-        return status::word_fault(rt, b"there is no option", o.unknown);
-    }
-    if o.lacking != 0 {
-        return status::word_fault(rt, b"a value is missing after", o.lacking);
-    }
+fn run_command(rt: &HostRuntime, command: Command, o: &Options) -> Result<Status, Fault> {
     match command {
-        Command::Check => check_with(rt, o),
-        Command::Translate => translate_with(rt, o),
-        Command::Run => run_with(rt, o),
-        Command::Demo => demo_with(rt, o),
-        Command::Help => help_with(rt, o),
-        Command::Version => version_with(rt, o),
-        Command::Missing => help::no_command(rt),
-        Command::Unknown => status::word_fault(rt, b"there is no command", word),
+        Command::Check => check(rt, o),
+        Command::Translate => translate(rt, o),
+        Command::Run => running::run_command(rt, o),
+        Command::Demo => {
+            alone(o, "demo takes no file")?;
+            demo::demo_command(rt)
+        }
+        Command::Help => {
+            alone(o, "help takes no file")?;
+            help::help_command(rt)
+        }
+        Command::Version => {
+            alone(o, "version takes no file")?;
+            help::version_command(rt)
+        }
     }
 }
 
-// Runs the command at a word, whose options and files are the words from the next one on.
-fn run_at(rt: &HostRuntime, word: usize, next: usize) -> u8 {
-    let command = command_at(rt, word);
-    match command {
-        Command::Missing => help::no_command(rt),
-        Command::Unknown => status::word_fault(rt, b"there is no command", word),
-        Command::Check => run_command(rt, command, word, options::options_from(rt, next)),
-        Command::Translate => run_command(rt, command, word, options::options_from(rt, next)),
-        Command::Run => run_command(rt, command, word, options::options_from(rt, next)),
-        Command::Demo => run_command(rt, command, word, options::options_from(rt, next)),
-        Command::Help => run_command(rt, command, word, options::options_from(rt, next)),
-        Command::Version => run_command(rt, command, word, options::options_from(rt, next)),
+// Runs the command that the first word is, whose options and files are the other words.
+fn run_words(rt: &HostRuntime, words: &[Word]) -> Result<Status, Fault> {
+    let Some((first, rest)) = words.split_first() else {
+        return Ok(help::no_command(rt));
+    };
+    let Some(command) = command_of(first.bytes()) else {
+        return Err(Fault::of_word(rt.alloc(), "there is no command", first));
+    };
+    let options = Options::of(rt.alloc(), rest)?;
+    run_command(rt, command, &options)
+}
+
+fn ended(rt: &HostRuntime, words: &[Word]) -> Status {
+    run_words(rt, words).unwrap_or_else(|fault| fault.tell(rt))
+}
+
+// After the word --status, which the launcher gives, the program ends with its status; without it with 0 whatever it says,
+// but where nobody reads it.
+fn status_of(rt: &HostRuntime, words: &[Word]) -> Status {
+    match words.split_first() {
+        Some((first, rest)) if first.bytes() == b"--status".as_slice() => ended(rt, rest),
+        _ => match ended(rt, words) {
+            Status::Closed => Status::Closed,
+            _ => Status::Accepted,
+        },
     }
 }
 
-// Whether the launcher wants the status: its first word is then --status.
-fn is_launched(rt: &HostRuntime) -> bool {
-    let mut text = [0u8; 16];
-    let n = files::word_at(rt, 1, &mut text);
-    text::same(&text[..n], b"--status")
-}
-
-// Without --status the program ends with 0 whatever it says, but where nobody reads it.
 fn main(rt: HostRuntime) -> ExitCode {
-    if is_launched(&rt) {
-        return status::report(run_at(&rt, 2, 3));
-    }
-    let status = run_at(&rt, 1, 2);
-    if status == status::CLOSED {
-        return status::report(status);
-    }
-    ExitCode::SUCCESS
+    let status = match files::words(&rt) {
+        Ok(words) => status_of(&rt, words.as_slice()),
+        Err(e) => Fault::from(e).tell(&rt),
+    };
+    ExitCode::from(status)
 }

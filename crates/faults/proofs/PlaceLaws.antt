@@ -47,5 +47,7 @@ place-fits s = go (end_fault s) refl
     go true e = omega arith
     go false e =
         let few : length (words s) ≤ 8192 = let f = end-good s e in omega (arith, f.few, f.whole) in
-        found-fits refuse.Word (λ i. refl) farthest _ (λ i q. omega (arith, fault-below (length (words s)) 0 0 (words s) i q)) _
-        (found-fits refuse.Landing (λ i. refl) farthest _ (λ i q. omega (arith, landing-below is 0 is i q, length-map (words s) decode)) (Ok tt) (omega arith))
+        found-fits refuse.Word (λ i. refl) farthest (first_fault (length (words s)) 0 0 (words s))
+        (λ i q. omega (arith, fault-below (length (words s)) 0 0 (words s) i q)) _
+        (found-fits refuse.Landing (λ i. refl) farthest (first_landing is 0 is)
+        (λ i q. omega (arith, landing-below is 0 is i q, length-map (words s) decode)) (Ok tt) (omega arith))

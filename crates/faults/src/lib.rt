@@ -75,6 +75,7 @@ fn faulty(n: usize, at: usize, d: usize, op: Op, arg: usize) -> bool
 }
 
 // The parentheses open after a word.
+#[tactic(auto, unfolding(crate::specs::Check::opens, words::specs::Word::known))]
 fn opened(op: Op, d: usize) -> usize
     requires { d < 65536 }
     ensures { (a : ℕ) → result ≡ opens (known (op_no op) a) d }

@@ -1,64 +1,84 @@
-// What is said on standard error.
-use crate::calls;
-use crate::calls::Stream;
-use std::fmt::Write;
+// Why a file or a stream was not read or written, and how that is told.
+use std::alloc::{AllocError, AllocFailed, Global};
+use std::fmt::InlineText;
+use std::io::{ErrorKind, Write};
 use std::{fmt, io};
 
-pub fn say(rt: &HostRuntime, text: &[u8]) {
-    let _ = calls::write_all(rt, Stream::Error, text);
+#[derive(Debug, Drop)]
+pub enum Fault {
+    // The file of this name is at fault, for the system's reason.
+    File { name: Vec<u8>, error: io::Error },
+    // The name of the code's file leaves no room for that of the new file beside it.
+    LongName,
+    // Nobody reads what is written.
+    Closed,
+    OutOfMemory,
 }
 
-// An error as it is printed.
-#[derive(Drop)]
-struct Printed {
-    text: [u8; 256],
-    used: usize,
-}
-
-impl fmt::Write for Printed {
-    fn write_str(&mut self, s: &str) -> fmt::Result {
-        self.used = text::put(&mut self.text, self.used, s.as_bytes());
-        Ok(())
-    }
-}
-
-// What an error of the system says, without the number that is printed in parentheses after it.
-fn without_number(printed: &[u8]) -> &[u8] {
-    for i in (1..printed.len()).rev() {
-        if printed[i] == b'(' {
-            return &printed[..i - 1];
+impl Fault {
+    // A fault of the file of this name.
+    pub fn of_file(alloc: Global, name: &[u8], error: io::Error) -> Fault {
+        match name.to_vec(alloc) {
+            Ok(name) => Fault::File { name, error },
+            Err(_) => Fault::OutOfMemory,
         }
     }
-    printed
-}
 
-// The reason of an error, without a line end.
-pub fn put_reason(out: &mut [u8], at: usize, e: &io::Error) -> usize {
-    let mut printed = Printed {
-        text: [0; 256],
-        used: 0,
-    };
-    let _ = write!(printed, "{e}");
-    let all = &printed.text[..printed.used.min(256)];
-    if e.raw_os_error().is_none() {
-        return text::put(out, at, all);
+    // A fault of a stream that is written to.
+    pub fn of_stream(alloc: Global, name: &[u8], error: io::Error) -> Fault {
+        if error.kind() == ErrorKind::BrokenPipe {
+            return Fault::Closed;
+        }
+        Fault::of_file(alloc, name, error)
     }
-    text::put(out, at, without_number(all))
+
+    // The fault's line, which is empty where nobody reads.
+    pub fn line(&self, alloc: Global) -> io::Result<Vec<u8>> {
+        let mut line = Vec::new(alloc);
+        match self {
+            Fault::File { name, error } => {
+                write!(line, "chz: ")?;
+                text::push_name(&mut line, name.as_slice())?;
+                writeln!(line, ": {}", Reason(error))?;
+            }
+            Fault::LongName => writeln!(line, "chz: the name of the code's file is too long")?,
+            Fault::OutOfMemory => writeln!(line, "chz: out of memory")?,
+            Fault::Closed => {}
+        }
+        Ok(line)
+    }
 }
 
-fn say_first(rt: &HostRuntime, out: &[u8], n: usize) {
-    let _ = calls::write_first(rt, Stream::Error, out, n);
+// Writes what standard output is for; a fault is told of it.
+pub fn write_output<W: io::Write>(alloc: Global, to: &mut W, bytes: &[u8]) -> Result<(), Fault> {
+    to.write_all(bytes)
+        .map_err(|e| Fault::of_stream(alloc, b"standard output", e))
 }
 
-// A fault of a file, with the reason.
-pub fn file_fault(rt: &HostRuntime, name: &[u8], e: &io::Error) {
-    let mut shown = text::buffer();
-    let n = text::put_name(&mut shown, 0, name);
-    let mut reason = [0u8; 512];
-    let a = text::put(&mut reason, 0, b": ");
-    let b = put_reason(&mut reason, a, e);
-    let c = text::put(&mut reason, b, b"\n");
-    say(rt, b"chz: ");
-    say_first(rt, &shown, n);
-    say_first(rt, &reason, c);
+impl From<AllocError> for Fault {
+    fn from(_: AllocError) -> Fault {
+        Fault::OutOfMemory
+    }
+}
+
+impl<T: Drop> From<AllocFailed<T>> for Fault {
+    fn from(_: AllocFailed<T>) -> Fault {
+        Fault::OutOfMemory
+    }
+}
+
+// The reason of an error, without the number that the system's have in parentheses after it.
+#[derive(Clone, Copy, Debug)]
+pub struct Reason<'a>(pub &'a io::Error);
+
+impl fmt::Display for Reason<'_> {
+    fn fmt<W: fmt::Write>(&self, f: &mut fmt::Formatter<W>) -> fmt::Result {
+        let all = InlineText::<256>::of(self.0);
+        let all = all.as_str();
+        let reason = match all.rsplit_once(" (") {
+            Some((reason, _)) if self.0.raw_os_error().is_some() => reason,
+            _ => all,
+        };
+        f.write_str(reason)
+    }
 }

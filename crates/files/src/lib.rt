@@ -2,12 +2,14 @@
 // written beside its name and renamed, so that it is the old one or the whole new one.
 #![tactic(auto)]
 
-mod calls;
 mod fault;
+mod given;
 mod named;
+mod read;
 mod save;
 
-pub use calls::{Read, Stream, read_all, read_some, write_all, write_first};
-pub use fault::{file_fault, put_reason, say};
-pub use named::{name_at, open_read, word_at};
+pub use fault::{Fault, Reason, write_output};
+pub use given::{Word, words};
+pub use named::open_read;
+pub use read::{read_file, read_some};
 pub use save::{Wrote, is_output, write_file};

@@ -1,215 +1,123 @@
-// The words after a command: its options, each with a value, and its files. A word is named by its number, 0 for none.
+// The words after a command: its options, each with a value, and its files.
 #![tactic(auto)]
 
-use std::env::{Env, FillError};
+ghost use Rattle.std.specs.Prelude.{◌≤◌, IfOk, IfSome};
 
-#[derive(Clone, Copy)]
-pub struct Options {
-    pub code: usize,
-    pub sheet: usize,
-    pub state: usize,
-    pub clock: usize,
-    pub first: usize,
-    pub second: usize,
-    pub third: usize,
-    pub unknown: usize,
-    pub lacking: usize,
+use files::Word;
+use status::Fault;
+use std::alloc::Global;
+use std::str;
+
+#[derive(Drop)]
+pub struct Options<'a> {
+    pub code: Option<&'a Word>,
+    pub sheet: Option<&'a Word>,
+    pub state: Option<&'a Word>,
+    pub clock: Option<&'a Word>,
+    pub files: Vec<&'a Word>,
 }
 
-// What a word is.
-#[derive(Clone, Copy)]
-enum Kind {
+// An option that takes a value.
+#[derive(Clone, Copy, Debug, PartialEq, Eq)]
+enum Named {
     Code,
     Sheet,
     State,
     Clock,
+}
+
+// What a word is.
+#[derive(Clone, Copy, Debug, PartialEq, Eq)]
+enum Kind {
+    Option(Named),
     Unknown,
     File,
 }
 
-// What a word's number is, up to the largest that 32 bits have.
-#[derive(Clone, Copy)]
-pub enum Number {
-    Of(u64),
-    Bad,
-}
-
-fn is_option(word: &[u8]) -> bool {
-    if word.len() < 2 {
-        return false;
-    }
-    word[0] == b'-'
-}
-
 fn kind_of(word: &[u8]) -> Kind {
-    if !is_option(word) {
-        return Kind::File;
-    }
-    if text::same(word, b"--code") {
-        return Kind::Code;
-    }
-    if text::same(word, b"--sheet") {
-        return Kind::Sheet;
-    }
-    if text::same(word, b"--state") {
-        return Kind::State;
-    }
-    if text::same(word, b"--clock") {
-        return Kind::Clock;
-    }
-    Kind::Unknown
-}
-
-// A word that is too long for any option is a file's name.
-fn kind_at(rt: &HostRuntime, word: usize) -> Kind {
-    let mut text = text::buffer();
-    let n = files::word_at(rt, word, &mut text);
-    kind_of(&text[..n])
-}
-
-fn no_options() -> Options {
-    Options {
-        code: 0,
-        sheet: 0,
-        state: 0,
-        clock: 0,
-        first: 0,
-        second: 0,
-        third: 0,
-        unknown: 0,
-        lacking: 0,
+    match word {
+        b"--code" => Kind::Option(Named::Code),
+        b"--sheet" => Kind::Option(Named::Sheet),
+        b"--state" => Kind::Option(Named::State),
+        b"--clock" => Kind::Option(Named::Clock),
+        [b'-', _, ..] => Kind::Unknown,
+        _ => Kind::File,
     }
 }
 
-fn with_file(o: Options, word: usize) -> Options {
-    let mut r = o;
-    if o.first == 0 {
-        r.first = word;
-        return r;
-    }
-    if o.second == 0 {
-        r.second = word;
-        return r;
-    }
-    r.third = word;
-    r
-}
-
-// The options with a value, for the option at the word that lacks one.
-fn with_value(rt: &HostRuntime, o: Options, value: usize) -> Options {
-    let kind = kind_at(rt, o.lacking);
-    let mut r = o;
-    r.lacking = 0;
-    match kind {
-        Kind::Code => {
-            r.code = value;
-            r
-        }
-        Kind::Sheet => {
-            r.sheet = value;
-            r
-        }
-        Kind::State => {
-            r.state = value;
-            r
-        }
-        Kind::Clock => {
-            r.clock = value;
-            r
-        }
-        Kind::Unknown => r,
-        Kind::File => r,
-    }
-}
-
-// The options after one more word, which is the value that one lacks, an option or a file.
-fn with_word(rt: &HostRuntime, o: Options, word: usize) -> Options {
-    if o.lacking != 0 {
-        return with_value(rt, o, word);
-    }
-    let kind = kind_at(rt, word);
-    let mut r = o;
-    match kind {
-        Kind::File => with_file(o, word),
-        Kind::Unknown => {
-            r.unknown = word;
-            r
-        }
-        Kind::Code => lacking_at(o, word),
-        Kind::Sheet => lacking_at(o, word),
-        Kind::State => lacking_at(o, word),
-        Kind::Clock => lacking_at(o, word),
-    }
-}
-
-fn lacking_at(o: Options, word: usize) -> Options {
-    let mut r = o;
-    r.lacking = word;
-    r
-}
-
-// Whether there is a word of this number.
-fn is_given(rt: &HostRuntime, word: usize) -> bool {
-    let mut text = [0u8; 16];
-    match rt.arg(word, &mut text) {
-        Ok(_) => true,
-        Err(FillError::TooLong) => true,
-        Err(FillError::NotPresent) => false,
-    }
-}
-
-// All words from the first one on, up to one that is at fault.
-pub fn options_from(rt: &HostRuntime, first: usize) -> Options {
-    let mut r = no_options();
-    for i in first..usize::MAX {
-        if !is_given(rt, i) {
-            return r;
-        }
-        r = with_word(rt, r, i);
-        if r.unknown != 0 {
-            return r;
+impl<'a> Options<'a> {
+    fn none(alloc: Global) -> Options<'a> {
+        Options {
+            code: None,
+            sheet: None,
+            state: None,
+            clock: None,
+            files: Vec::new(alloc),
         }
     }
-    r
-}
 
-fn with_digit(n: u64, b: u8) -> Number {
-    if b < b'0' {
-        return Number::Bad;
-    }
-    if b'9' < b {
-        return Number::Bad;
-    }
-    if 429496729 < n {
-        return Number::Bad;
-    }
-    let m = n * 10 + ((b - b'0') as u64);
-    if 4294967295 < m {
-        return Number::Bad;
-    }
-    Number::Of(m)
-}
-
-fn number_of(text: &[u8]) -> Number {
-    if text.len() == 0 {
-        return Number::Bad;
-    }
-    let mut n: u64 = 0;
-    for b in text {
-        match with_digit(n, *b) {
-            Number::Of(m) => n = m,
-            Number::Bad => return Number::Bad,
+    fn set(&mut self, named: Named, value: &'a Word) {
+        match named {
+            Named::Code => self.code = Some(value),
+            Named::Sheet => self.sheet = Some(value),
+            Named::State => self.state = Some(value),
+            Named::Clock => self.clock = Some(value),
         }
     }
-    Number::Of(n)
+
+    // All words after a command. An option that stands twice has the last value.
+    pub fn of(alloc: Global, words: &'a [Word]) -> Result<Options<'a>, Fault> {
+        let mut options = Options::none(alloc);
+        // The option whose value the next word is, with its own word.
+        let mut lacking = None;
+        for word in words {
+            lacking = match (lacking, kind_of(word.bytes())) {
+                (Some((named, _)), _) => {
+                    options.set(named, word);
+                    None
+                }
+                (None, Kind::Option(named)) => Some((named, word)),
+                (None, Kind::Unknown) => {
+                    return Err(Fault::of_word(alloc, "there is no option", word));
+                }
+                (None, Kind::File) => {
+                    options.files.push(word)?;
+                    None
+                }
+            };
+        }
+        match lacking {
+            Some((_, word)) => Err(Fault::of_word(alloc, "a value is missing after", word)),
+            None => Ok(options),
+        }
+    }
+
+    // Whether no option is given.
+    pub fn is_plain(&self) -> bool {
+        self.code.is_none() && self.sheet.is_none() && self.state.is_none() && self.clock.is_none()
+    }
 }
 
-// The number that a word is; 0 where there is no word.
-pub fn number_at(rt: &HostRuntime, word: usize) -> Number {
-    if word == 0 {
-        return Number::Of(0);
+// The number that digits are, if it has no more than 32 bits.
+fn number_of(digits: &[u8]) -> Option<u32> {
+    // A sign is no digit, though `parse` takes one.
+    if !digits.iter().all(|b| b.is_ascii_digit()) {
+        return None;
     }
-    let mut text = text::buffer();
-    let n = files::word_at(rt, word, &mut text);
-    number_of(&text[..n])
+    str::from_utf8(digits).ok()?.parse::<u32>().ok()
+}
+
+// The number that an option's value is, up to the most, where it is given.
+pub fn number_up_to(
+    value: Option<&Word>,
+    most: u32,
+    usage: &'static str,
+) -> Result<Option<u32>, Fault>
+    ensures { IfOk result (λ given. IfSome given (λ n. n ≤ most)) }
+{
+    let Some(word) = value else { return Ok(None) };
+    match number_of(word.bytes()) {
+        Some(n) if n <= most => Ok(Some(n)),
+        _ => Err(Fault::Usage(usage)),
+    }
 }

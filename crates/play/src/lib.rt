@@ -1,296 +1,169 @@
-// A trace played, a printed line a scan: code beside the reference, the two compared, or code alone.
+// A trace played: its scans made and printed, a line a scan.
 #![tactic(auto)]
 
-use answer::Checked;
-use machine::Record;
-use scan::State;
-use start::{
-    ALONE, AT_END, BAD_LINE, DIFFER, GOING, NOT_READ, Play, failed, flushed, plus, stopped,
-};
+use start::{Difference, Run};
+use std::alloc::{AllocError, Global};
+use std::fmt::Display;
 use std::io;
-use text::{put, put_named};
+use table::{Change, Flags, Row};
+use text::{Bits, Count};
+use trace::{BadLine, Entry, Trace};
 
-// Room that a printed line never needs more of.
+// Why a trace was not played to its end.
+#[derive(Drop)]
+pub enum Fault {
+    BadLine(BadLine),
+    Differs(Difference),
+    NotRead(io::Error),
+    NotWritten(io::Error),
+    OutOfMemory,
+}
+
+impl From<BadLine> for Fault {
+    fn from(line: BadLine) -> Fault {
+        Fault::BadLine(line)
+    }
+}
+
+impl From<Difference> for Fault {
+    fn from(difference: Difference) -> Fault {
+        Fault::Differs(difference)
+    }
+}
+
+impl From<AllocError> for Fault {
+    fn from(_: AllocError) -> Fault {
+        Fault::OutOfMemory
+    }
+}
+
+// How much a page holds, and room that a printed line never needs more of.
+const PAGE: usize = 65536;
+
 const ROOM: usize = 256;
 
-// Whether the runner's record is the reference's: its one flag is the state's, outputs and clock are the same.
-fn agree(record: Record, state: State) -> bool {
-    if 32 <= state.state {
-        return false;
+// What is printed and not yet written. A BufWriter is not the same: what a failed write leaves it writes once more when it is
+// dropped.
+#[derive(Drop)]
+struct Page<W: Drop> {
+    to: W,
+    text: String,
+}
+
+impl<W: io::Write + Drop> Page<W> {
+    fn new(alloc: Global, to: W) -> Result<Self, AllocError> {
+        let text = String::with_capacity(alloc, PAGE)?;
+        Ok(Page { to, text })
     }
-    let flag = bits::set_bit(0, state.state as u32);
-    (record.flags == flag) & (record.outputs == state.outputs) & (record.clock == state.clock)
-}
 
-fn low_word(inputs: u32) -> u16 {
-    (inputs % 65536) as u16
-}
-
-fn low_time(ms: u64) -> u32 {
-    (ms % 4294967296) as u32
-}
-
-fn is_accepted(verdict: Checked) -> bool {
-    answer::number_of(verdict) == 0
-}
-
-// The reference's scan of an entry, held against the record that the code left.
-fn compared(p: Play, sheet: &[u8], word: u16, elapsed: u32) -> Play {
-    let state = p.state;
-    let record = p.record;
-    let referred = scan::scan(sheet, state, word, elapsed);
-    let meant = referred.verdict;
-    let reached = referred.record;
-    let mut r = p;
-    r.state = reached;
-    if is_accepted(meant) & agree(record, reached) {
-        return r;
+    fn write_out(&mut self) -> Result<(), Fault> {
+        let written = self.to.write_all(self.text.as_bytes());
+        self.text.clear();
+        written.map_err(Fault::NotWritten)
     }
-    stopped(r, DIFFER)
-}
 
-// The scan of an entry, by the code and, beside it, by the reference.
-fn scanned(p: Play, sheet: &[u8], code: &[u8]) -> Play {
-    let entry = p.entry;
-    let record = p.record;
-    let word = low_word(entry.inputs);
-    let elapsed = low_time(entry.ms);
-    let ran = machine::run(code, record, word, elapsed);
-    let made = ran.verdict;
-    let after = ran.record;
-    let mut r = p;
-    r.scans = plus(p.scans, 1);
-    r.time = plus(p.time, entry.ms);
-    r.record = after;
-    if !is_accepted(made) {
-        return stopped(r, DIFFER);
+    fn put<D: Display + Drop>(&mut self, line: D) -> Result<(), Fault> {
+        writeln!(self.text, "{line}")?;
+        Ok(())
     }
-    if p.source == ALONE {
-        return r;
-    }
-    compared(r, sheet, word, elapsed)
-}
 
-// The columns' names.
-fn put_head(page: &mut [u8], at: usize, p: Play) -> usize {
-    let span = p.span;
-    table::put_head(page, at, span.most as usize, p.outputs as usize)
-}
-
-fn put_state(page: &mut [u8], at: usize, p: Play) -> usize {
-    let record = p.record;
-    table::put_state(page, at, record, p.outputs as usize)
-}
-
-// The line of a scan that was made.
-fn put_scan(page: &mut [u8], at: usize, p: Play, moved: bool) -> usize {
-    let entry = p.entry;
-    let span = p.span;
-    let a = table::put_times(page, at, p.scans, p.time);
-    let b = table::put_inputs(
-        page,
-        a,
-        entry.inputs,
-        entry.count as usize,
-        span.most as usize,
-    );
-    let c = put_state(page, b, p);
-    let record = p.record;
-    table::put_moved(page, c, moved, record.flags)
-}
-
-// The line of the start.
-fn put_start(page: &mut [u8], at: usize, p: Play) -> usize {
-    let span = p.span;
-    let a = table::put_times(page, at, 0, 0);
-    let b = table::put_no_inputs(page, a, span.most as usize);
-    let c = put_state(page, b, p);
-    if p.cold {
-        return put(page, c, b"  cold start\n");
-    }
-    put(page, c, b"  start\n")
-}
-
-// The table's head and the line of the start.
-pub fn begun(p: Play, page: &mut [u8]) -> Play {
-    let head = put_head(page, 0, p);
-    let used = put_start(page, head, p);
-    let mut r = p;
-    r.used = used;
-    r
-}
-
-// The last line, by which a short trace is seen.
-fn put_closing(page: &mut [u8], at: usize, p: Play) -> usize {
-    let record = p.record;
-    let a = put(page, at, b"ended: ");
-    let b = text::put_count(page, a, p.scans, b"scan");
-    let c = put_named(page, b, b", ", p.time);
-    let d = put(page, c, b" ms, ");
-    let e = table::put_flags(page, d, record.flags);
-    put(page, e, b"\n")
-}
-
-// Writes out the page where a further line might not fit.
-fn turned(rt: &HostRuntime, p: Play, page: &[u8]) -> Play {
-    if p.used <= page.len() {
-        if ROOM <= page.len() - p.used {
-            return p;
+    // Writes out the page where a further line might not fit.
+    fn turn(&mut self) -> Result<(), Fault> {
+        if PAGE - ROOM < self.text.len() {
+            return self.write_out();
         }
+        Ok(())
     }
-    flushed(rt, p, page)
 }
 
-// The scan of an entry that has one, printed.
-fn played(rt: &HostRuntime, p: Play, sheet: &[u8], code: &[u8], page: &mut [u8]) -> Play {
-    let before = p.record;
-    let done = scanned(p, sheet, code);
-    if done.how != GOING {
-        return done;
+// The line of the record that a run has come to.
+fn row(run: &Run, inputs: Option<Bits>, change: Change) -> Row {
+    Row {
+        columns: run.columns,
+        scans: run.scans,
+        time: run.time,
+        inputs,
+        record: run.record,
+        change,
     }
-    let after = done.record;
-    let used = put_scan(page, done.used, done, before.flags != after.flags);
-    let mut r = done;
-    r.used = used;
-    turned(rt, r, page)
 }
 
-fn line_begun(p: Play) -> Play {
-    let fresh = trace::new_entry();
-    let mut r = p;
-    r.entry = fresh;
-    r
+// A run, the trace that it follows, and its page.
+#[derive(Drop)]
+struct Play<'a, W: Drop> {
+    run: Run<'a>,
+    trace: Trace,
+    page: Page<W>,
 }
 
-// A line that was read whole: its scan if it has one.
-fn line_ended(rt: &HostRuntime, p: Play, sheet: &[u8], code: &[u8], page: &mut [u8]) -> Play {
-    let entry = p.entry;
-    let span = p.span;
-    let whole = trace::at_end(entry, span);
-    let mut q = p;
-    q.entry = whole;
-    if whole.fault != trace::FINE {
-        return stopped(q, BAD_LINE);
+impl<'a, W: io::Write + Drop> Play<'a, W> {
+    // The table's head and the line of the start stand on the page.
+    fn begin(alloc: Global, run: Run<'a>, to: W) -> Result<Self, Fault> {
+        let mut page = Page::new(alloc, to)?;
+        page.put(run.columns)?;
+        page.put(row(&run, None, run.opening))?;
+        let trace = Trace::new(run.span);
+        Ok(Play { run, trace, page })
     }
-    q.lines = plus(p.lines, 1);
-    if !whole.whole {
-        return line_begun(q);
-    }
-    let done = played(rt, q, sheet, code, page);
-    if done.how != GOING {
-        return done;
-    }
-    line_begun(done)
-}
 
-// The next byte of the trace.
-fn byte_taken(
-    rt: &HostRuntime,
-    p: Play,
-    b: u8,
-    sheet: &[u8],
-    code: &[u8],
-    page: &mut [u8],
-) -> Play {
-    if b == b'\n' {
-        return line_ended(rt, p, sheet, code, page);
+    // A scan, printed.
+    fn scan(&mut self, entry: Entry) -> Result<(), Fault> {
+        let change = self.run.scan(entry)?;
+        let inputs = Bits {
+            word: u32::from(entry.inputs),
+            count: entry.bits as usize,
+        };
+        self.page.put(row(&self.run, Some(inputs), change))?;
+        self.page.turn()
     }
-    let entry = p.entry;
-    let span = p.span;
-    let next = trace::take(entry, b, span);
-    let mut r = p;
-    r.entry = next;
-    if next.fault != trace::FINE {
-        return stopped(r, BAD_LINE);
-    }
-    r
-}
 
-// The bytes of a part of the trace, up to one that ends it.
-fn part_taken(
-    rt: &HostRuntime,
-    p: Play,
-    part: &[u8],
-    sheet: &[u8],
-    code: &[u8],
-    page: &mut [u8],
-) -> Play {
-    let mut r = p;
-    for b in part {
-        r = byte_taken(rt, r, *b, sheet, code, page);
-        if r.how != GOING {
-            return r;
+    fn take(&mut self, part: &[u8]) -> Result<(), Fault> {
+        for b in part {
+            if let Some(entry) = self.trace.take(*b)? {
+                self.scan(entry)?;
+            }
         }
+        Ok(())
     }
-    r
+
+    // The last line, by which a short trace is seen.
+    fn close(&mut self) -> Result<(), Fault> {
+        self.trace.end()?;
+        let scans = Count {
+            number: self.run.scans,
+            noun: "scan",
+        };
+        let time = self.run.time;
+        let flags = Flags(self.run.record.flags);
+        self.page
+            .put(format_args!("ended: {scans}, {time} ms, {flags}"))
+    }
+
+    // The page is written before each read, so that whoever types a trace sees each answer. A proved loop has to end, and
+    // nothing says that a file does, so it counts its turns up to a number that no run uses up.
+    fn follow<R: io::Read>(&mut self, from: &mut R) -> Result<(), Fault> {
+        let mut part = [0u8; PAGE];
+        for _ in 0..u64::MAX {
+            self.page.write_out()?;
+            match files::read_some(from, &mut part) {
+                Ok(0) => return self.close(),
+                Ok(n) => self.take(&part[..n])?,
+                Err(e) => return Err(Fault::NotRead(e)),
+            }
+        }
+        Ok(())
+    }
 }
 
-// The end of the trace, where no line may be begun.
-fn trace_ended(p: Play, page: &mut [u8]) -> Play {
-    let entry = p.entry;
-    let last = trace::at_last(entry);
-    let mut r = p;
-    r.entry = last;
-    if last.fault != trace::FINE {
-        return stopped(r, BAD_LINE);
-    }
-    let used = put_closing(page, p.used, p);
-    r.used = used;
-    stopped(r, AT_END)
-}
-
-// A trace that is held whole.
-pub fn whole_taken(
-    rt: &HostRuntime,
-    p: Play,
-    part: &[u8],
-    sheet: &[u8],
-    code: &[u8],
-    page: &mut [u8],
-) -> Play {
-    let r = part_taken(rt, p, part, sheet, code, page);
-    if r.how != GOING {
-        return r;
-    }
-    trace_ended(r, page)
-}
-
-// One read of the trace. The page is written out first, so that whoever types a trace sees each answer.
-fn read_on<R: io::Read>(
-    rt: &HostRuntime,
-    p: Play,
+// Plays a trace to its end. All that stands on the page is written, whatever ended it.
+pub fn play_trace<R: io::Read, W: io::Write + Drop>(
+    alloc: Global,
+    run: Run,
     from: &mut R,
-    sheet: &[u8],
-    code: &[u8],
-    page: &mut [u8],
-) -> Play {
-    let q = flushed(rt, p, page);
-    if q.how != GOING {
-        return q;
-    }
-    let mut part = text::large_buffer();
-    match files::read_some(from, &mut part) {
-        Err(e) => failed(q, NOT_READ, e),
-        Ok(0) => trace_ended(q, page),
-        Ok(n) => part_taken(rt, q, &part[..n], sheet, code, page),
-    }
-}
-
-// The whole trace. The loop counts its turns up to a number that no run uses up: nothing says that a file ends.
-pub fn all_read<R: io::Read>(
-    rt: &HostRuntime,
-    p: Play,
-    from: &mut R,
-    sheet: &[u8],
-    code: &[u8],
-    page: &mut [u8],
-) -> Play {
-    let mut r = p;
-    for _ in 0..u64::MAX {
-        r = read_on(rt, r, from, sheet, code, page);
-        if r.how != GOING {
-            return r;
-        }
-    }
-    r
+    to: W,
+) -> Result<(), Fault> {
+    let mut play = Play::begin(alloc, run, to)?;
+    let played = play.follow(from);
+    play.page.write_out()?;
+    played
 }

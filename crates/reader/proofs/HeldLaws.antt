@@ -24,9 +24,9 @@ copy-held s d a k n m =
       states = length-take-le d.header.states d.rows n ∙ k.states;
       transitions = length-take-le d.header.transitions d.arrows m ∙ k.transitions;
       row = λ i l.
-      let low : i < d.header.states = omega (arith, l, k.states) in
-      get_or-take d.header.states d.rows i 0 low ∙ k.row i l;
+          let low : i < d.header.states = omega (arith, l, k.states) in
+          get_or-take d.header.states d.rows i 0 low ∙ k.row i l;
       arrow = λ i l.
-      let low : i < d.header.transitions = omega (arith, l, k.transitions) in
-      rw (get_or-take d.header.transitions d.arrows i 0 low) (k.arrow i l);
+          let low : i < d.header.transitions = omega (arith, l, k.transitions) in
+          rw (get_or-take d.header.transitions d.arrows i 0 low) (k.arrow i l);
     }

@@ -1,70 +1,41 @@
 // The command that translates: CODE is the old file or the whole new one.
 #![tactic(auto)]
 
-use answer::Checked;
-use files::{Read, Stream, Wrote};
-use report::{read_file, tell_code, tell_refused};
+use explain::Explained;
+use files::{Word, Wrote};
+use report::{read_file, tell_code};
+use status::{Fault, Status};
+use std::alloc::Global;
 
-// Where the code is standard output's, all else is said on standard error.
-fn messages_beside(name: &[u8]) -> Stream {
-    if files::is_output(name) {
-        return Stream::Error;
-    }
-    Stream::Output
+// Any sheet's code fits in as many bytes.
+const ROOM: usize = 26028;
+
+pub fn code_of(alloc: Global, sheet: &[u8]) -> Result<Vec<u8>, Fault> {
+    let mut code = vec![in alloc; 0u8; ROOM]?;
+    let translated = translate::translate(sheet, code.as_mut_slice());
+    translated.verdict?;
+    code.truncate(translated.length);
+    Ok(code)
 }
 
-fn save_code(rt: &HostRuntime, name: &[u8], code: &[u8], length: usize) -> u8 {
-    let wrote = files::write_file(rt, name, code, length);
-    match wrote {
-        Wrote::File => tell_code(rt, Stream::Output, b"translated:", length),
-        Wrote::Stream => tell_code(rt, Stream::Error, b"translated:", length),
-        Wrote::Closed => status::CLOSED,
-        Wrote::Fault => status::FAILED,
+pub fn translate_command(rt: &HostRuntime, sheet: &Word, code: &Word) -> Result<Status, Fault> {
+    let name = code.name(rt.alloc(), "the code's name")?;
+    // The launcher looks through links; the program itself sees only that the names are the same.
+    if sheet.bytes() == name {
+        return Err(Fault::Usage("the code would replace the sheet"));
     }
-}
-
-// Any sheet's code fits in 26,028 bytes.
-fn translate_bytes(rt: &HostRuntime, all: &[u8], n: usize, name: &[u8]) -> u8 {
-    if all.len() < n {
-        return status::FAILED;
-    }
-    let sheet = &all[0..n];
-    let mut code = [0u8; 26028];
-    let t = translate::translate(sheet, &mut code);
-    let verdict = t.verdict;
-    match verdict {
-        Checked::Refused(_) => tell_refused(rt, messages_beside(name), verdict),
-        Checked::Accepted => {
-            let length = t.length;
-            save_code(rt, name, &code, length)
+    let read = read_file(rt, sheet, report::SHEET_BYTES)?;
+    let code = match code_of(rt.alloc(), read.as_slice()) {
+        // Where the code is standard output's, all else is said on standard error.
+        Err(Fault::Refused(why)) if files::is_output(name) => {
+            status::tell(rt, &mut rt.stderr(), Explained(why))?;
+            return Ok(Status::Refused);
         }
-    }
-}
-
-fn translate_to(rt: &HostRuntime, first: usize, name: &[u8]) -> u8 {
-    let mut all = text::buffer();
-    let read = read_file(rt, first, &mut all);
-    match read {
-        Read::Bytes(n) => translate_bytes(rt, &all, n, name),
-        Read::Fault => status::FAILED,
-    }
-}
-
-// The launcher looks through links; the program itself sees only that the names are the same.
-fn is_sheet(rt: &HostRuntime, first: usize, name: &[u8]) -> bool {
-    let mut sheet = text::buffer();
-    let n = files::word_at(rt, first, &mut sheet);
-    text::same(&sheet[..n], name)
-}
-
-pub fn translate_command(rt: &HostRuntime, first: usize, second: usize) -> u8 {
-    let mut name = text::buffer();
-    let n = match files::name_at(rt, second, &mut name) {
-        Ok(n) => n,
-        Err(e) => return status::file_fault(rt, b"the code's name", &e),
+        done => done?,
     };
-    if is_sheet(rt, first, &name[..n]) {
-        return status::usage_fault(rt, b"the code would replace the sheet");
+    match files::write_file(rt, name, code.as_slice())? {
+        Wrote::File => tell_code(rt, &mut rt.stdout(), "translated", code.len())?,
+        Wrote::Stream => tell_code(rt, &mut rt.stderr(), "translated", code.len())?,
     }
-    translate_to(rt, first, &name[..n])
+    Ok(Status::Accepted)
 }

@@ -1,183 +1,212 @@
-// What is kept of a run between scans, and the records that it begins with: the cold start, or a state and a clock that were asked for.
+// A run between its scans: code, beside a sheet's reference or alone, and their records. It begins with the cold start, or
+// with a state and a clock that were asked for, and each scan holds the two records against one another.
 #![tactic(auto)]
 
-use answer::Checked;
-use files::Stream;
+ghost use Rattle.std.specs.Prelude.{◌≡◌, ◌^◌, IfSome};
+
+use answer::Refusal;
 use machine::Record;
 use reader::Decoded;
 use scan::State;
-use std::io;
+use std::fmt;
+use table::{Change, Columns};
 use trace::{Entry, Span};
 
-// How a trace goes on or ends.
-pub const GOING: u8 = 0;
-
-pub const AT_END: u8 = 1;
-
-pub const BAD_LINE: u8 = 2;
-
-pub const DIFFER: u8 = 3;
-
-pub const NOT_WRITTEN: u8 = 4;
-
-pub const NOT_READ: u8 = 5;
-
-// Where the code is from.
-pub const TRANSLATED: u8 = 0;
-
-pub const GIVEN: u8 = 1;
-
-pub const ALONE: u8 = 2;
-
-// All that is kept between scans: both records, the entry being read, how much of the page is filled, and why a file
-// failed.
-#[derive(Clone, Copy)]
-pub struct Play {
-    pub how: u8,
-    pub source: u8,
-    pub cold: bool,
-    pub span: Span,
-    pub outputs: u32,
-    pub lines: u64,
-    pub scans: u64,
-    pub time: u64,
-    pub used: usize,
-    pub entry: Entry,
-    pub record: Record,
-    pub state: State,
-    pub failed: Option<io::Error>,
-}
-
-// Where a run begins: a state and a clock, or the cold start.
-#[derive(Clone, Copy)]
+// Where a run begins that is not begun from cold.
+#[derive(Clone, Copy, Debug, Default, PartialEq, Eq)]
 pub struct Start {
-    pub cold: bool,
     pub state: u8,
     pub clock: u32,
 }
 
-// The header of a sheet; what else is read is let go.
-pub fn header_of(sheet: &[u8]) -> Decoded {
-    let mut rows = [0u16; 32];
-    let mut lines = [0u64; 128];
-    reader::read_sheet(sheet, &mut rows, &mut lines)
-}
-
-fn row_of(rows: &[u16; 32], state: u8) -> u16 {
-    let s = state as usize;
-    if s < 32 {
-        return rows[s];
+impl Start {
+    fn record(self, outputs: u16) -> Record {
+        machine::record_with(flag_of(self.state).unwrap_or(0), outputs, self.clock)
     }
-    0
-}
 
-// The outputs of a state of an accepted sheet.
-fn outputs_in(sheet: &[u8], state: u8) -> u16 {
-    let mut rows = [0u16; 32];
-    let mut lines = [0u64; 128];
-    let _ = reader::read_sheet(sheet, &mut rows, &mut lines);
-    row_of(&rows, state)
-}
-
-fn flag_of(state: u8) -> u32 {
-    if state < 32 {
-        return bits::set_bit(0, state as u32);
-    }
-    0
-}
-
-// A play before its first scan.
-fn begin(source: u8, cold: bool, span: Span, outputs: u32, record: Record, state: State) -> Play {
-    let entry = trace::new_entry();
-    Play {
-        how: GOING,
-        source: source,
-        cold: cold,
-        span: span,
-        outputs: outputs,
-        lines: 0,
-        scans: 0,
-        time: 0,
-        used: 0,
-        entry: entry,
-        record: record,
-        state: state,
-        failed: None,
+    fn reference(self, outputs: u16) -> State {
+        scan::state_with(self.state, outputs, self.clock)
     }
 }
 
-fn exactly(n: u32) -> Span {
-    Span { least: n, most: n }
+// Where the code is from that runs beside a reference.
+#[derive(Clone, Copy, Debug, PartialEq, Eq)]
+pub enum Source {
+    Translated,
+    Given,
 }
 
-// Both cold records of an accepted sheet.
-pub fn cold(sheet: &[u8], source: u8) -> Play {
-    let d = header_of(sheet);
-    let started = translate::cold_run(sheet);
-    let referred = scan::cold_scan(sheet);
-    let record = started.record;
-    let state = referred.record;
-    begin(source, true, exactly(d.inputs), d.outputs, record, state)
+// A sheet and the record of its reference.
+#[derive(Clone, Copy)]
+pub struct Reference<'a> {
+    pub sheet: &'a [u8],
+    pub source: Source,
+    pub state: State,
 }
 
-fn record_at(s: Start, outputs: u16) -> Record {
-    machine::record_with(flag_of(s.state), outputs, s.clock)
+// What is kept of a run: its code, the reference beside it, if there is one, and how far it came.
+#[derive(Clone, Copy)]
+pub struct Run<'a> {
+    pub code: &'a [u8],
+    pub record: Record,
+    pub reference: Option<Reference<'a>>,
+    pub opening: Change,
+    pub span: Span,
+    pub columns: Columns,
+    pub scans: u64,
+    pub time: u64,
 }
 
-fn state_at(s: Start, outputs: u16) -> State {
-    scan::state_with(s.state, outputs, s.clock)
+// A scan after which code and reference differ.
+#[derive(Clone, Copy)]
+pub struct Difference {
+    pub scan: u64,
+    pub record: Record,
+    pub reference: Option<(Source, State)>,
 }
 
-// Both records in a state of the sheet, with its outputs.
-pub fn entered(sheet: &[u8], source: u8, s: Start) -> Play {
-    let d = header_of(sheet);
-    let outputs = outputs_in(sheet, s.state);
-    begin(
-        source,
-        false,
-        exactly(d.inputs),
-        d.outputs,
-        record_at(s, outputs),
-        state_at(s, outputs),
-    )
+impl Difference {
+    // Whether the code came from a file, and so need not do what the sheet says.
+    pub fn is_of_given(&self) -> bool {
+        matches!(self.reference, Some((Source::Given, _)))
+    }
 }
 
-// Code alone: only a sheet says what a state's outputs are, so they begin as 0.
-pub fn alone(s: Start) -> Play {
-    let span = Span { least: 1, most: 16 };
-    begin(ALONE, false, span, 16, record_at(s, 0), state_at(s, 0))
+// The scan's number, and both records in a line each.
+impl fmt::Display for Difference {
+    fn fmt<W: fmt::Write>(&self, f: &mut fmt::Formatter<W>) -> fmt::Result {
+        let code = self.record;
+        writeln!(f, "{}", self.scan)?;
+        write!(f, "code: flag word {}, output word ", code.flags)?;
+        write!(f, "{}, clock {}", code.outputs, code.clock)?;
+        let Some((_, reference)) = self.reference else {
+            return Ok(());
+        };
+        write!(f, "\nreference: state {}, output word ", reference.state)?;
+        write!(f, "{}, clock {}", reference.outputs, reference.clock)
+    }
 }
 
-// Whether the sheet has the state: the reference's own answer.
-pub fn judged(sheet: &[u8], s: Start) -> Checked {
-    let referred = scan::scan(sheet, state_at(s, 0), 0, 0);
-    referred.verdict
+// The flag of a state's number, if there is one.
+fn flag_of(state: u8) -> Option<u32>
+    ensures { IfSome result (λ flag. flag ≡ 2 ^ state) }
+{
+    if state < 32 { Some(1 << state) } else { None }
 }
 
-// Times and counts stand still at the top, which no trace reaches.
-pub fn plus(a: u64, b: u64) -> u64 {
-    if a <= u64::MAX - b { a + b } else { u64::MAX }
+// An accepted sheet, decoded.
+fn read(sheet: &[u8]) -> Decoded {
+    let mut decoded = Decoded::empty();
+    let _ = reader::read_sheet(sheet, &mut decoded);
+    decoded
 }
 
-pub fn stopped(p: Play, how: u8) -> Play {
-    let mut r = p;
-    r.how = how;
-    r
+// Whether the runner's record is the reference's: its one flag is the state's, outputs and clock are the same.
+fn agree(record: Record, state: State) -> bool {
+    flag_of(state.state) == Some(record.flags)
+        && record.outputs == state.outputs
+        && record.clock == state.clock
 }
 
-pub fn failed(p: Play, how: u8, e: io::Error) -> Play {
-    let mut r = p;
-    r.how = how;
-    r.failed = Some(e);
-    r
-}
+impl<'a> Run<'a> {
+    // Code beside the reference of an accepted sheet. It is refused where the sheet lacks the state that was asked for.
+    pub fn beside(
+        sheet: &'a [u8],
+        code: &'a [u8],
+        source: Source,
+        start: Option<Start>,
+    ) -> Result<Self, Refusal> {
+        let Decoded { header, rows, .. } = read(sheet);
+        let (record, state) = match start {
+            None => (
+                translate::cold_run(sheet).record,
+                scan::cold_scan(sheet).record,
+            ),
+            Some(start) => {
+                scan::scan(sheet, start.reference(0), 0, 0).verdict?;
+                let outputs = rows.get(start.state as usize).copied().unwrap_or(0);
+                (start.record(outputs), start.reference(outputs))
+            }
+        };
+        let reference = Reference {
+            sheet,
+            source,
+            state,
+        };
+        Ok(Run {
+            code,
+            record,
+            reference: Some(reference),
+            opening: if start.is_none() {
+                Change::ColdStart
+            } else {
+                Change::Start
+            },
+            span: Span::exactly(header.inputs),
+            columns: Columns {
+                inputs: header.inputs,
+                outputs: header.outputs,
+            },
+            scans: 0,
+            time: 0,
+        })
+    }
 
-// Writes out the page.
-pub fn flushed(rt: &HostRuntime, p: Play, page: &[u8]) -> Play {
-    let mut r = p;
-    r.used = 0;
-    match files::write_first(rt, Stream::Output, page, p.used) {
-        Ok(()) => r,
-        Err(e) => failed(r, NOT_WRITTEN, e),
+    // Code alone: only a sheet says what a state's outputs are, so they begin as 0.
+    pub fn alone(code: &'a [u8], start: Option<Start>) -> Self {
+        let start = start.unwrap_or_default();
+        Run {
+            code,
+            record: start.record(0),
+            reference: None,
+            opening: Change::Start,
+            span: Span { least: 1, most: 16 },
+            columns: Columns {
+                inputs: 16,
+                outputs: 16,
+            },
+            scans: 0,
+            time: 0,
+        }
+    }
+
+    fn difference(&self) -> Difference {
+        Difference {
+            scan: self.scans,
+            record: self.record,
+            reference: self.reference.map(|r| (r.source, r.state)),
+        }
+    }
+
+    // The reference's scan, held against the record that the code left.
+    fn compare(&mut self, entry: Entry) -> bool {
+        let Some(reference) = &mut self.reference else {
+            return true;
+        };
+        let referred = scan::scan(
+            reference.sheet,
+            reference.state,
+            entry.inputs,
+            entry.elapsed,
+        );
+        reference.state = referred.record;
+        referred.verdict.is_ok() && agree(self.record, referred.record)
+    }
+
+    // One scan, by the code and, where there is one, by the reference.
+    pub fn scan(&mut self, entry: Entry) -> Result<Change, Difference> {
+        let before = self.record.flags;
+        self.scans = self.scans.saturating_add(1);
+        self.time = self.time.saturating_add(u64::from(entry.elapsed));
+        let ran = machine::run(self.code, self.record, entry.inputs, entry.elapsed);
+        self.record = ran.record;
+        if ran.verdict.is_err() || !self.compare(entry) {
+            return Err(self.difference());
+        }
+        Ok(if before == self.record.flags {
+            Change::Stayed
+        } else {
+            Change::Moved
+        })
     }
 }

@@ -1,76 +1,149 @@
 // How a command ends, and what it says of that.
 #![tactic(auto)]
 
-use files::Stream;
+use answer::Refusal;
+use explain::Explained;
+use files::Word;
+use std::alloc::{AllocError, AllocFailed, Global};
+use std::fmt::Display;
 use std::io;
-use std::io::ErrorKind;
+use std::io::Write;
 use std::process::ExitCode;
 
-pub const ACCEPTED: u8 = 0;
+#[derive(Clone, Copy, Debug, PartialEq, Eq)]
+pub enum Status {
+    Accepted,
+    Refused,
+    // Usage, a file, or a bad line of a trace.
+    Failed,
+    // Nobody reads what is written: the program says nothing and ends as one that the system's signal for that ends.
+    Closed,
+}
 
-pub const REFUSED: u8 = 1;
+// What a fault of usage says on its second line.
+const MORE: &str = "'chz help' shows the commands";
 
-// Usage, a file, or a bad line of a trace.
-pub const FAILED: u8 = 2;
-
-// Nobody reads what is written: the program says nothing and ends as one that the system's signal for that ends.
-pub const CLOSED: u8 = 141;
+// The bytes that a fault of a word has on its first line, at the most.
+const MOST: usize = 4096;
 
 // What the program ends with, by which the launcher learns the status.
-pub fn report(status: u8) -> ExitCode {
-    ExitCode::from(status)
-}
-
-fn way_to_learn_more(rt: &HostRuntime) -> u8 {
-    files::say(rt, b"'chz help' shows the commands\n");
-    FAILED
-}
-
-// A fault in how the program was called, with the way to learn more.
-pub fn usage_fault(rt: &HostRuntime, what: &[u8]) -> u8 {
-    files::say(rt, b"chz: ");
-    files::say(rt, what);
-    files::say(rt, b"\n");
-    way_to_learn_more(rt)
-}
-
-// The same, with the word that was meant.
-pub fn word_fault(rt: &HostRuntime, what: &[u8], word: usize) -> u8 {
-    let mut text = text::buffer();
-    let n = files::word_at(rt, word, &mut text);
-    let mut out = text::buffer();
-    let a = text::put(&mut out, 0, b"chz: ");
-    let b = text::put(&mut out, a, what);
-    let c = text::put(&mut out, b, b" '");
-    let d = text::put_name(&mut out, c, &text[..n]);
-    let e = text::put(&mut out, d, b"'\n");
-    let _ = files::write_first(rt, Stream::Error, &out, e);
-    way_to_learn_more(rt)
-}
-
-// A fault of a file, with the system's reason.
-pub fn file_fault(rt: &HostRuntime, name: &[u8], e: &io::Error) -> u8 {
-    files::file_fault(rt, name, e);
-    FAILED
-}
-
-// The status of an answer that was written to standard output, and of one that was not.
-pub fn written(rt: &HostRuntime, done: io::Result<()>, status: u8) -> u8 {
-    match done {
-        Ok(()) => status,
-        Err(e) => if e.kind() == ErrorKind::BrokenPipe {
-            CLOSED
-        } else {
-            file_fault(rt, b"standard output", &e)
-        },
+impl From<Status> for ExitCode {
+    fn from(status: Status) -> ExitCode {
+        ExitCode::from(match status {
+            Status::Accepted => 0u8,
+            Status::Refused => 1,
+            Status::Failed => 2,
+            Status::Closed => 141,
+        })
     }
 }
 
-// Writes an answer, to standard output unless the code goes there, and stands by its status only if it was written.
-pub fn tell_on(rt: &HostRuntime, stream: Stream, out: &[u8], n: usize, status: u8) -> u8 {
-    written(rt, files::write_first(rt, stream, out, n), status)
+// Why a command came to no answer of its own.
+#[derive(Drop)]
+pub enum Fault {
+    // How the program was called.
+    Usage(&'static str),
+    // The same, with the word that was meant.
+    Word { what: &'static str, word: Vec<u8> },
+    File(files::Fault),
+    Refused(Refusal),
+    // A fault in the words of whoever found it, without the line's end.
+    Said(Vec<u8>),
 }
 
-pub fn tell(rt: &HostRuntime, out: &[u8], n: usize, status: u8) -> u8 {
-    tell_on(rt, Stream::Output, out, n, status)
+impl Fault {
+    pub fn of_word(alloc: Global, what: &'static str, word: &Word) -> Fault {
+        match word.bytes().to_vec(alloc) {
+            Ok(word) => Fault::Word { what, word },
+            Err(e) => Fault::from(e),
+        }
+    }
+
+    // Tells the fault, a refusal on standard output and all else on standard error: the status that the command ends with.
+    pub fn tell(&self, rt: &HostRuntime) -> Status {
+        match self {
+            Fault::Usage(what) => say(rt, usage_lines(rt.alloc(), what)),
+            Fault::Word { what, word } => say(rt, word_lines(rt.alloc(), what, word.as_slice())),
+            Fault::Said(said) => say(rt, said_line(rt.alloc(), said.as_slice())),
+            Fault::File(fault) => tell_file(rt, fault),
+            Fault::Refused(why) => match tell(rt, &mut rt.stdout(), Explained(*why)) {
+                Ok(()) => Status::Refused,
+                Err(fault) => tell_file(rt, &fault),
+            },
+        }
+    }
+}
+
+impl From<files::Fault> for Fault {
+    fn from(fault: files::Fault) -> Fault {
+        Fault::File(fault)
+    }
+}
+
+impl From<Refusal> for Fault {
+    fn from(why: Refusal) -> Fault {
+        Fault::Refused(why)
+    }
+}
+
+impl From<AllocError> for Fault {
+    fn from(e: AllocError) -> Fault {
+        Fault::File(files::Fault::from(e))
+    }
+}
+
+impl<T: Drop> From<AllocFailed<T>> for Fault {
+    fn from(e: AllocFailed<T>) -> Fault {
+        Fault::File(files::Fault::from(e))
+    }
+}
+
+fn usage_lines(alloc: Global, what: &str) -> io::Result<Vec<u8>> {
+    let mut lines = Vec::new(alloc);
+    writeln!(lines, "chz: {what}\n{MORE}")?;
+    Ok(lines)
+}
+
+fn word_lines(alloc: Global, what: &str, word: &[u8]) -> io::Result<Vec<u8>> {
+    let mut lines = Vec::new(alloc);
+    write!(lines, "chz: {what} '")?;
+    text::push_name(&mut lines, word)?;
+    writeln!(lines, "'")?;
+    lines.truncate(MOST);
+    writeln!(lines, "{MORE}")?;
+    Ok(lines)
+}
+
+fn said_line(alloc: Global, said: &[u8]) -> io::Result<Vec<u8>> {
+    let mut line = Vec::new(alloc);
+    write!(line, "chz: ")?;
+    line.extend_from_slice(said)?;
+    writeln!(line)?;
+    Ok(line)
+}
+
+// Says what could be put into words. Where standard error takes nothing, there is nobody to tell.
+fn say(rt: &HostRuntime, lines: io::Result<Vec<u8>>) -> Status {
+    let _ = match lines {
+        Ok(lines) => rt.stderr().write_all(lines.as_slice()),
+        Err(_) => rt.stderr().write_all(b"chz: out of memory\n"),
+    };
+    Status::Failed
+}
+
+fn tell_file(rt: &HostRuntime, fault: &files::Fault) -> Status {
+    match fault {
+        files::Fault::Closed => Status::Closed,
+        _ => say(rt, fault.line(rt.alloc())),
+    }
+}
+
+// Writes an answer in one piece, to standard output unless the code goes there.
+pub fn tell<W: io::Write, D: Display + Drop>(
+    rt: &HostRuntime,
+    to: &mut W,
+    said: D,
+) -> Result<(), files::Fault> {
+    let said = said.to_string(rt.alloc())?;
+    files::write_output(rt.alloc(), to, said.as_bytes())
 }

@@ -3,90 +3,111 @@
 #![tactic(auto)]
 
 use machine::Record;
-use text::{put, put_left_column, put_number_column, put_text_column};
+use std::fmt;
+use text::Bits;
 
-// The columns of inputs and outputs are as wide as their names at the least.
-fn widest(a: usize, b: usize) -> usize {
-    if a < b { b } else { a }
+// How many inputs and outputs a run shows. They have columns as wide as their names at the least.
+#[derive(Clone, Copy, Debug, PartialEq, Eq)]
+pub struct Columns {
+    pub inputs: u32,
+    pub outputs: u32,
 }
 
-pub fn put_head(page: &mut [u8], at: usize, inputs: usize, outputs: usize) -> usize {
-    let a = text::put_text_right(page, at, b"scan", 15);
-    let b = put_text_column(page, a, b"time ms", 20);
-    let c = put_left_column(page, b, b"inputs", inputs);
-    let d = put_text_column(page, c, b"state", 5);
-    let e = put_left_column(page, d, b"outputs", outputs);
-    let f = put_text_column(page, e, b"clock ms", 10);
-    put(page, f, b"\n")
-}
-
-pub fn put_times(page: &mut [u8], at: usize, scans: u64, time: u64) -> usize {
-    let a = text::put_number_right(page, at, scans, 15);
-    put_number_column(page, a, time, 20)
-}
-
-pub fn put_inputs(page: &mut [u8], at: usize, word: u32, n: usize, width: usize) -> usize {
-    text::put_bits_column(page, at, word, n, widest(width, 6))
-}
-
-pub fn put_no_inputs(page: &mut [u8], at: usize, width: usize) -> usize {
-    put_left_column(page, at, b"-", widest(width, 6))
-}
-
-// The number of the one flag that is set, 32 where there are none or several.
-fn state_of(flags: u32) -> u32 {
-    if flags == 0 {
-        return 32;
+impl Columns {
+    fn input_width(&self) -> usize {
+        (self.inputs as usize).max("inputs".len())
     }
-    let s = u32::trailing_zeros(flags);
-    if 32 <= s {
-        return 32;
+
+    fn output_width(&self) -> usize {
+        (self.outputs as usize).max("outputs".len())
     }
-    if flags == bits::set_bit(0, s) { s } else { 32 }
 }
 
-fn put_number_or_none(page: &mut [u8], at: usize, state: u32) -> usize {
-    if state < 32 {
-        return put_number_column(page, at, state as u64, 5);
+// The columns' names.
+impl fmt::Display for Columns {
+    fn fmt<W: fmt::Write>(&self, f: &mut fmt::Formatter<W>) -> fmt::Result {
+        let inputs = self.input_width();
+        let outputs = self.output_width();
+        write!(
+            f,
+            "{:>15}  {:>20}  {:inputs$}  {:>5}  {:outputs$}  {:>10}",
+            "scan", "time ms", "inputs", "state", "outputs", "clock ms"
+        )
     }
-    put_text_column(page, at, b"-", 5)
 }
 
-// State, outputs and clock.
-pub fn put_state(page: &mut [u8], at: usize, record: Record, outputs: usize) -> usize {
-    let a = put_number_or_none(page, at, state_of(record.flags));
-    let b = text::put_bits_column(page, a, record.outputs as u32, outputs, widest(outputs, 7));
-    put_number_column(page, b, record.clock as u64, 10)
+// The number of the one flag that is set, if it is one alone.
+fn state_of(flags: u32) -> Option<u32> {
+    flags.is_power_of_two().then_some(flags.trailing_zeros())
 }
 
-// The state, or the flag word where it is not one flag alone.
-pub fn put_flags(page: &mut [u8], at: usize, flags: u32) -> usize {
-    let state = state_of(flags);
-    if state < 32 {
-        let a = put(page, at, b"state ");
-        return text::put_number(page, a, state as u64);
+// Where a flag word says that a run is: a state, or the word itself where it is not one flag alone.
+#[derive(Clone, Copy, Debug, PartialEq, Eq)]
+pub struct Flags(pub u32);
+
+impl fmt::Display for Flags {
+    fn fmt<W: fmt::Write>(&self, f: &mut fmt::Formatter<W>) -> fmt::Result {
+        match state_of(self.0) {
+            Some(state) => write!(f, "state {state}"),
+            None => write!(f, "flags {:08x}", self.0),
+        }
     }
-    let a = put(page, at, b"flags ");
-    text::put_hex(page, a, flags as u64)
 }
 
-fn put_odd_flags(page: &mut [u8], at: usize, flags: u32) -> usize {
-    if state_of(flags) < 32 {
-        return at;
+// How a run came to the record of a line.
+#[derive(Clone, Copy, Debug, PartialEq, Eq)]
+pub enum Change {
+    ColdStart,
+    Start,
+    Moved,
+    Stayed,
+}
+
+impl fmt::Display for Change {
+    fn fmt<W: fmt::Write>(&self, f: &mut fmt::Formatter<W>) -> fmt::Result {
+        f.write_str(match self {
+            Change::ColdStart => "cold start",
+            Change::Start => "start",
+            Change::Moved => "moved",
+            Change::Stayed => "stayed",
+        })
     }
-    let a = put(page, at, b", ");
-    put_flags(page, a, flags)
 }
 
-fn put_change(page: &mut [u8], at: usize, moved: bool) -> usize {
-    if moved {
-        return put(page, at, b"  moved");
+// A line of a run: its start, which has no inputs, or a scan.
+#[derive(Clone, Copy)]
+pub struct Row {
+    pub columns: Columns,
+    pub scans: u64,
+    pub time: u64,
+    pub inputs: Option<Bits>,
+    pub record: Record,
+    pub change: Change,
+}
+
+impl fmt::Display for Row {
+    fn fmt<W: fmt::Write>(&self, f: &mut fmt::Formatter<W>) -> fmt::Result {
+        let width = self.columns.input_width();
+        write!(f, "{:>15}  {:>20}  ", self.scans, self.time)?;
+        match self.inputs {
+            Some(inputs) => write!(f, "{inputs:width$}  ")?,
+            None => write!(f, "{:width$}  ", "-")?,
+        }
+        let state = state_of(self.record.flags);
+        match state {
+            Some(state) => write!(f, "{state:>5}  ")?,
+            None => write!(f, "{:>5}  ", "-")?,
+        }
+        let outputs = Bits {
+            word: u32::from(self.record.outputs),
+            count: self.columns.outputs as usize,
+        };
+        let width = self.columns.output_width();
+        write!(f, "{outputs:width$}  {:>10}  ", self.record.clock)?;
+        write!(f, "{}", self.change)?;
+        match state {
+            Some(_) => Ok(()),
+            None => write!(f, ", {}", Flags(self.record.flags)),
+        }
     }
-    put(page, at, b"  stayed")
-}
-
-pub fn put_moved(page: &mut [u8], at: usize, moved: bool, flags: u32) -> usize {
-    let a = put_change(page, at, moved);
-    let b = put_odd_flags(page, a, flags);
-    put(page, b, b"\n")
 }

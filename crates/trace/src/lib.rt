@@ -1,262 +1,241 @@
-// An entry of a trace, read from text: a scan a line, its input bits (input 0 first) and its elapsed ms, as `110 99`; #
-// starts a comment. It is read a byte at a time, so that a line may have any length and nothing is held.
+// A trace, read from text: a scan a line, its input bits (input 0 first) and its elapsed ms, as `110 99`; # starts a
+// comment. It is read a byte at a time, so that a line may have any length, nothing is held, and what is wrong is told
+// at the byte that shows it.
 #![tactic(auto)]
 
-use text::{put, put_count, put_nth, put_number};
+use std::error::Error;
+use std::fmt;
+use text::Count;
 
-// How far an entry was read.
-const START: u8 = 0;
-
-const BITS: u8 = 1;
-
-const GAP: u8 = 2;
-
-const MS: u8 = 3;
-
-const AFTER: u8 = 4;
-
-const COMMENT: u8 = 5;
-
-// What is wrong with an entry.
-pub const FINE: u8 = 0;
-
-const NOT_A_BIT: u8 = 1;
-
-const FEW_BITS: u8 = 2;
-
-const MANY_BITS: u8 = 3;
-
-const NO_MS: u8 = 4;
-
-const NOT_MS: u8 = 5;
-
-const LONG_MS: u8 = 6;
-
-const LATE: u8 = 7;
-
-const LONE_RETURN: u8 = 8;
-
-const CUT: u8 = 9;
-
-// How many input bits an entry has: as many as the sheet has inputs, or any number that code can look at.
-#[derive(Clone, Copy)]
+// How many input bits a scan has: as many as the sheet has inputs, or any number that code can look at.
+#[derive(Clone, Copy, Debug, PartialEq, Eq)]
 pub struct Span {
     pub least: u32,
     pub most: u32,
 }
 
-// An entry as far as it was read: its phase, whether a byte was read at all and a carriage return last, whether it has
-// a whole scan, its input word with the count of bits, its ms.
-#[derive(Clone, Copy)]
+impl Span {
+    pub fn exactly(n: u32) -> Self {
+        Span { least: n, most: n }
+    }
+}
+
+impl fmt::Display for Span {
+    fn fmt<W: fmt::Write>(&self, f: &mut fmt::Formatter<W>) -> fmt::Result {
+        if self.least != self.most {
+            write!(f, "{} to ", self.least)?;
+        }
+        let most = Count {
+            number: u64::from(self.most),
+            noun: "input bit",
+        };
+        write!(f, "{most}")
+    }
+}
+
+// What a line asks for: an input word, the count of bits that it was given by, and the elapsed ms.
+#[derive(Clone, Copy, Debug, PartialEq, Eq)]
 pub struct Entry {
-    pub phase: u8,
-    pub fault: u8,
-    pub begun: bool,
-    pub returned: bool,
-    pub whole: bool,
-    pub count: u32,
-    pub inputs: u32,
-    pub ms: u64,
+    pub inputs: u16,
+    pub bits: u32,
+    pub elapsed: u32,
 }
 
-pub fn new_entry() -> Entry {
-    Entry {
-        phase: START,
-        fault: FINE,
-        begun: false,
-        returned: false,
-        whole: false,
-        count: 0,
-        inputs: 0,
-        ms: 0,
+// What is wrong with a line.
+#[derive(Clone, Copy, Debug, PartialEq, Eq)]
+pub enum Fault {
+    NotABit,
+    FewBits(u32),
+    ManyBits,
+    NoTime,
+    NotATime,
+    LongTime,
+    LateWord,
+    LoneReturn,
+    Cut,
+}
+
+// A line at fault, by its number, and how many bits were expected in it.
+#[derive(Clone, Copy, Debug, PartialEq, Eq)]
+pub struct BadLine {
+    pub number: u64,
+    pub fault: Fault,
+    pub span: Span,
+}
+
+impl fmt::Display for BadLine {
+    fn fmt<W: fmt::Write>(&self, f: &mut fmt::Formatter<W>) -> fmt::Result {
+        let number = self.number;
+        let span = self.span;
+        write!(f, "line {number}: expected ")?;
+        match self.fault {
+            Fault::NotABit => write!(
+                f,
+                "{span}, each 0 or 1, and then the elapsed ms, as in '110 99'"
+            ),
+            Fault::FewBits(found) => write!(f, "{span}, found {found}"),
+            Fault::ManyBits => write!(f, "{span}, found more"),
+            Fault::NoTime => f.write_str("the elapsed ms after the input bits, as in '110 99'"),
+            Fault::NotATime => f.write_str("the elapsed ms in digits, as in '110 99'"),
+            Fault::LongTime => f.write_str("at most 4294967295 ms"),
+            Fault::LateWord => f.write_str("the line's end after the ms, or a comment with #"),
+            Fault::LoneReturn => f.write_str("a line feed after the carriage return"),
+            Fault::Cut => f.write_str("a line end, and the trace ends before it"),
+        }
     }
 }
 
-fn at_fault(entry: Entry, fault: u8) -> Entry {
-    let mut r = entry;
-    r.fault = fault;
-    r
+impl Error for BadLine {}
+
+// How far a line was read. From the first digit of the ms on it has them.
+#[derive(Clone, Copy, Debug, PartialEq, Eq)]
+enum Phase {
+    Start,
+    Bits,
+    Gap,
+    Time(u32),
+    After(u32),
+    Comment(Option<u32>),
 }
 
-fn at_phase(entry: Entry, phase: u8) -> Entry {
-    let mut r = entry;
-    r.phase = phase;
-    r
+// A line as far as it was read: its phase, its input bits, and its last byte, if it has one.
+#[derive(Clone, Copy, Debug, PartialEq, Eq)]
+struct Line {
+    phase: Phase,
+    inputs: u16,
+    bits: u32,
+    last: Option<u8>,
 }
 
-// One more input bit.
-fn take_bit(entry: Entry, b: u8, span: Span) -> Entry {
-    if (b != b'0') & (b != b'1') {
-        return at_fault(entry, NOT_A_BIT);
+// The ms with one more digit, which are a 32-bit number.
+fn with_digit(ms: u32, b: u8) -> Result<u32, Fault> {
+    if !b.is_ascii_digit() {
+        return Err(Fault::NotATime);
     }
-    let count = entry.count;
-    if span.most <= count {
-        return at_fault(entry, MANY_BITS);
-    }
-    if 32 <= count {
-        return at_fault(entry, MANY_BITS);
-    }
-    let mut r = entry;
-    r.phase = BITS;
-    r.count = count + 1;
-    if b == b'1' {
-        let inputs = bits::set_bit(entry.inputs, count);
-        r.inputs = inputs;
-    }
-    r
+    let digit = u32::from(b - b'0');
+    ms.checked_mul(10)
+        .and_then(|tens| tens.checked_add(digit))
+        .ok_or(Fault::LongTime)
 }
 
-// One more digit of the ms, which are a 32-bit number.
-fn take_digit(entry: Entry, b: u8) -> Entry {
-    if b < b'0' {
-        return at_fault(entry, NOT_MS);
+impl Line {
+    fn new() -> Self {
+        Line {
+            phase: Phase::Start,
+            inputs: 0,
+            bits: 0,
+            last: None,
+        }
     }
-    if b'9' < b {
-        return at_fault(entry, NOT_MS);
+
+    fn take_bit(&mut self, b: u8, span: Span) -> Result<(), Fault> {
+        let bit: u16 = match b {
+            b'0' => 0,
+            b'1' => 1,
+            _ => return Err(Fault::NotABit),
+        };
+        if span.most.min(u16::BITS) <= self.bits {
+            return Err(Fault::ManyBits);
+        }
+        self.inputs |= bit << self.bits;
+        self.bits += 1;
+        self.phase = Phase::Bits;
+        Ok(())
     }
-    if 429496729 < entry.ms {
-        return at_fault(entry, LONG_MS);
+
+    // The phase after a blank: the bits are all there, or the ms.
+    fn after_blank(&self, span: Span) -> Result<Phase, Fault> {
+        match self.phase {
+            Phase::Bits if self.bits < span.least => Err(Fault::FewBits(self.bits)),
+            Phase::Bits => Ok(Phase::Gap),
+            Phase::Time(ms) => Ok(Phase::After(ms)),
+            phase => Ok(phase),
+        }
     }
-    let ms = entry.ms * 10 + ((b - b'0') as u64);
-    if 4294967295 < ms {
-        return at_fault(entry, LONG_MS);
+
+    // The ms of a line that ends here, or goes on with a comment, if it has any.
+    fn time(&self, span: Span) -> Result<Option<u32>, Fault> {
+        match self.after_blank(span)? {
+            Phase::Start => Ok(None),
+            Phase::Bits | Phase::Gap => Err(Fault::NoTime),
+            Phase::Time(ms) | Phase::After(ms) => Ok(Some(ms)),
+            Phase::Comment(time) => Ok(time),
+        }
     }
-    let mut r = entry;
-    r.phase = MS;
-    r.whole = true;
-    r.ms = ms;
-    r
+
+    // The next byte, which is no line feed. A carriage return stands only before one.
+    fn take(&mut self, b: u8, span: Span) -> Result<(), Fault> {
+        if self.last == Some(b'\r') {
+            return Err(Fault::LoneReturn);
+        }
+        self.last = Some(b);
+        match (self.phase, b) {
+            (Phase::Comment(_), _) | (_, b'\r') => {}
+            (_, b'#') => self.phase = Phase::Comment(self.time(span)?),
+            (_, b' ' | b'\t') => self.phase = self.after_blank(span)?,
+            (Phase::Start | Phase::Bits, _) => self.take_bit(b, span)?,
+            (Phase::Gap, _) => self.phase = Phase::Time(with_digit(0, b)?),
+            (Phase::Time(ms), _) => self.phase = Phase::Time(with_digit(ms, b)?),
+            (Phase::After(_), _) => return Err(Fault::LateWord),
+        }
+        Ok(())
+    }
+
+    // The scan of a line that ends here, if it has one.
+    fn entry(&self, span: Span) -> Result<Option<Entry>, Fault> {
+        let time = self.time(span)?;
+        Ok(time.map(|elapsed| Entry {
+            inputs: self.inputs,
+            bits: self.bits,
+            elapsed,
+        }))
+    }
 }
 
-// What a blank, a comment or the line's end ends: the bits are all there, or the ms.
-fn ended(entry: Entry, span: Span) -> Entry {
-    if (entry.phase == BITS) & (entry.count < span.least) {
-        return at_fault(entry, FEW_BITS);
-    }
-    if entry.phase == BITS {
-        return at_phase(entry, GAP);
-    }
-    if entry.phase == MS {
-        return at_phase(entry, AFTER);
-    }
-    entry
+// A trace as far as it was read: how many lines are whole, and the one after them.
+#[derive(Clone, Copy, Debug, PartialEq, Eq)]
+pub struct Trace {
+    span: Span,
+    lines: u64,
+    line: Line,
 }
 
-// The line's end: the entry has a whole scan, or none.
-pub fn at_end(entry: Entry, span: Span) -> Entry {
-    let r = ended(entry, span);
-    if r.phase == GAP {
-        return at_fault(r, NO_MS);
+impl Trace {
+    pub fn new(span: Span) -> Self {
+        Trace {
+            span,
+            lines: 0,
+            line: Line::new(),
+        }
     }
-    r
-}
 
-// The trace's end: where a line was begun it lacks its line end, and what is missing nobody knows.
-pub fn at_last(entry: Entry) -> Entry {
-    if entry.begun {
-        return at_fault(entry, CUT);
-    }
-    entry
-}
-
-fn take_mark(entry: Entry, b: u8, span: Span) -> Entry {
-    if entry.phase <= BITS {
-        return take_bit(entry, b, span);
-    }
-    if entry.phase <= MS {
-        return take_digit(entry, b);
-    }
-    at_fault(entry, LATE)
-}
-
-// A byte of the line that is no carriage return.
-fn take_plain(entry: Entry, b: u8, span: Span) -> Entry {
-    if entry.phase == COMMENT {
-        return entry;
-    }
-    if b == b'#' {
-        let r = at_end(entry, span);
-        return at_phase(r, COMMENT);
-    }
-    if (b == b' ') | (b == b'\t') {
-        return ended(entry, span);
-    }
-    take_mark(entry, b, span)
-}
-
-// The next byte of the line. A carriage return stands only before the line's end.
-pub fn take(entry: Entry, b: u8, span: Span) -> Entry {
-    if entry.returned {
-        return at_fault(entry, LONE_RETURN);
-    }
-    let mut r = entry;
-    r.begun = true;
-    if b == b'\r' {
-        r.returned = true;
-        return r;
-    }
-    take_plain(r, b, span)
-}
-
-// The number of bits expected.
-fn put_span(out: &mut [u8], at: usize, span: Span) -> usize {
-    if span.least == span.most {
-        return put_count(out, at, span.most as u64, b"input bit");
-    }
-    let a = put_number(out, at, span.least as u64);
-    let b = put(out, a, b" to ");
-    put_count(out, b, span.most as u64, b"input bit")
-}
-
-// What was expected of the bits.
-fn put_expected_bits(out: &mut [u8], at: usize, entry: Entry, span: Span) -> usize {
-    let a = put_span(out, at, span);
-    if entry.fault == FEW_BITS {
-        let b = put(out, a, b", found ");
-        return put_number(out, b, entry.count as u64);
-    }
-    if entry.fault == MANY_BITS {
-        return put(out, a, b", found more");
-    }
-    put(
-        out,
-        a,
-        b", each 0 or 1, and then the elapsed ms, as in '110 99'",
-    )
-}
-
-// What was expected of the rest, from the missing ms on.
-fn put_expected_rest(out: &mut [u8], at: usize, fault: u32) -> usize {
-    if fault == 0 {
-        return put(
-            out,
-            at,
-            b"the elapsed ms after the input bits, as in '110 99'",
-        );
-    }
-    if fault <= 2 {
-        return put_nth(
-            out,
-            at,
-            b"|the elapsed ms in digits, as in '110 99'|at most 4294967295 ms|",
+    fn bad(&self, fault: Fault) -> BadLine {
+        BadLine {
+            number: self.lines.saturating_add(1),
             fault,
-        );
+            span: self.span,
+        }
     }
-    if fault == 3 {
-        return put(out, at, b"the line's end after the ms, or a comment with #");
-    }
-    put_nth(
-        out,
-        at,
-        b"||||a line feed after the carriage return|a line end, and the trace ends before it|",
-        fault,
-    )
-}
 
-// What was expected of an entry at fault.
-pub fn put_expected(out: &mut [u8], at: usize, entry: Entry, span: Span) -> usize {
-    if entry.fault < NO_MS {
-        return put_expected_bits(out, at, entry, span);
+    // The next byte. A line feed gives the scan of its line, if it has one.
+    pub fn take(&mut self, b: u8) -> Result<Option<Entry>, BadLine> {
+        if b != b'\n' {
+            self.line
+                .take(b, self.span)
+                .map_err(|fault| self.bad(fault))?;
+            return Ok(None);
+        }
+        let entry = self.line.entry(self.span).map_err(|fault| self.bad(fault))?;
+        self.lines = self.lines.saturating_add(1);
+        self.line = Line::new();
+        Ok(entry)
     }
-    put_expected_rest(out, at, (entry.fault - NO_MS) as u32)
+
+    // The trace's end. A line that was begun lacks its line end, and what is missing nobody knows.
+    pub fn end(&self) -> Result<(), BadLine> {
+        match self.line.last {
+            None => Ok(()),
+            Some(_) => Err(self.bad(Fault::Cut)),
+        }
+    }
 }

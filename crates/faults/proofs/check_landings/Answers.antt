@@ -18,10 +18,6 @@ use Rattle.faults.proofs.check_landings.Goals as goal
 pub lands_open-requires-clause-at_in_bounds : goal.lands_open-requires-clause-at_in_bounds
 lands_open-requires-clause-at_in_bounds c = omega (arith, words-length c.args.code.now)
 
-pub lands_open-requires-clause-all_marked : goal.lands_open-requires-clause-all_marked
-lands_open-requires-clause-all_marked c =
-    record { few = c.requires.code_few; sound = c.requires.code_sound; marks = c.mark_open-marks.ensures }
-
 -- what is told of what the search found
 told : {f g : Option ℕ} → f ≡ g → refuse_at refuse.Landing f (Ok tt) ≡ refuse_at refuse.Landing g (Ok tt)
 told = ap (λ (f : Option ℕ). refuse_at refuse.Landing f (Ok tt))

@@ -89,8 +89,3 @@ step-requires c =
 
 pub loop-arg-preserved : goal.loop-arg-preserved
 loop-arg-preserved c = (went (goal.at.loop-arg-preserved c).After-step).1
-
-pub loop-arg-smaller : goal.loop-arg-smaller
-loop-arg-smaller c =
-    let w = went (goal.at.loop-arg-smaller c).After-step in
-    omega (arith, w.0, w.1.inside)

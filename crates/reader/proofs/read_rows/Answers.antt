@@ -1,5 +1,5 @@
 -- `reader::read_rows` meets its contract. Assumes nothing.
-use mathlib.Core.Path.{◌≡◌, refl, sym}
+use mathlib.Core.Path.{refl, sym}
 use mathlib.Core.List.{[], ◌∷◌, ◌++◌}
 use native.Mathlib.Omega.{arith}
 use lib.ListN.{length}
@@ -40,11 +40,3 @@ returns-in_err-word c =
     let p = err_from_is_err_and c.from_residual.result c.from_residual.ensures.1 in
     let x = told-bad word_of (read l.here.at) _ (sym c.in_err-word.ensures) in
     rw (upto-bad read a.c.at l.row-index (length a.rows.now) (omega arith) l.invariant.2 x, p.1, p.2) refl
-
-pub returns : goal.returns
-returns c =
-    let a = c.args in
-    let l = c.loop-row in
-    let done : l.row-index ≡ length a.rows.now = omega arith in
-    let e = rw done at l.invariant.2 in
-    rw e (refl, λ j h. l.invariant.3 j (omega arith))

@@ -1,5 +1,5 @@
 -- `reader::read_transitions` meets its contract. Assumes nothing.
-use mathlib.Core.Path.{◌≡◌, refl}
+use mathlib.Core.Path.{refl}
 use mathlib.Core.List.{[], ◌∷◌, ◌++◌}
 use native.Mathlib.Omega.{arith}
 use lib.ListN.{length}
@@ -41,11 +41,3 @@ returns-in_err-next c =
     let p = err_from_is_err_and c.from_residual.result c.from_residual.ensures.1 in
     let x = arrow-bad a.s.now a.header.inputs (read l.here.at) _ _ c.in_err-next.ensures in
     rw (upto-bad read a.c.at l.arrow-index (length a.arrows.now) (omega arith) l.invariant.2 x, p.1, p.2) refl
-
-pub returns : goal.returns
-returns c =
-    let a = c.args in
-    let l = c.loop-arrow in
-    let done : l.arrow-index ≡ length a.arrows.now = omega arith in
-    let e = rw done at l.invariant.2 in
-    rw e (refl, λ j h. l.invariant.3 j (omega arith))

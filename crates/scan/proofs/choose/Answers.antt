@@ -11,7 +11,7 @@ use Rattle.reader.specs.declared.Decoded.{Decoded}
 use Rattle.reader.proofs.HeldLaws.{Held, copy-held}
 use Rattle.reader.proofs.Laws.{read-sizes}
 use Rattle.sheet.specs.inside.Opening.{Good}
-use Rattle.scan.proofs.PickLaws.{Passed, passed_start, passed-fires, passed-stays, passed-end}
+use Rattle.scan.proofs.PickLaws.{Passed, passed-fires, passed-stays, passed-end}
 use Rattle.scan.proofs.choose.Goals as goal
 use Rattle.scan.proofs.choose.Goals.{then-can_fire, else-can_fire}
 
@@ -26,9 +26,6 @@ pub arrows-w-items-requires : goal.arrows-w-items-requires
 arrows-w-items-requires c =
     let g = c.requires in
     omega (arith, read-sizes c.args.sheet.now g.sheet g.end g.read, g.copy.transitions)
-
-pub loop-w-init : goal.loop-w-init
-loop-w-init c a k = passed_start _ _ _ a.transitions
 
 pub loop-w-preserved : goal.loop-w-preserved
 loop-w-preserved c a k =

@@ -1,0 +1,58 @@
+// The words that the program was given.
+use crate::fault::Fault;
+use std::alloc::{AllocError, Global};
+use std::env::{Env, FillError};
+use std::io;
+
+// The system's number for a name that is too long.
+const TOO_LONG: i32 = 36;
+
+// A word that the program was given. One that is too long for any name is not held.
+#[derive(Debug, Drop)]
+pub struct Word {
+    held: Option<Vec<u8>>,
+}
+
+impl Word {
+    // The bytes of the word, none where it is too long.
+    pub fn bytes(&self) -> &[u8] {
+        match &self.held {
+            Some(bytes) => bytes.as_slice(),
+            None => b"",
+        }
+    }
+
+    // The word as a file's name; a fault says whose name it is.
+    pub fn name(&self, alloc: Global, whose: &str) -> Result<&[u8], Fault> {
+        match &self.held {
+            Some(bytes) => Ok(bytes.as_slice()),
+            None => {
+                let error = io::Error::from_raw_os_error(TOO_LONG);
+                Err(Fault::of_file(alloc, whose.as_bytes(), error))
+            }
+        }
+    }
+}
+
+// The word of this number, if there is one. The list that std makes is none where a word is not UTF-8.
+fn word_at(rt: &HostRuntime, number: usize) -> Result<Option<Word>, AllocError> {
+    let mut room = [0u8; 4096];
+    let held = match rt.arg(number, &mut room) {
+        Ok(n) => Some(room[..n].to_vec(rt.alloc())?),
+        Err(FillError::TooLong) => None,
+        Err(FillError::NotPresent) => return Ok(None),
+    };
+    Ok(Some(Word { held }))
+}
+
+// All words after the program's own name.
+pub fn words(rt: &HostRuntime) -> Result<Vec<Word>, AllocError> {
+    let mut all = Vec::new(rt.alloc());
+    for number in 1..usize::MAX {
+        match word_at(rt, number)? {
+            Some(word) => all.push(word)?,
+            None => break,
+        }
+    }
+    Ok(all)
+}
