@@ -92,11 +92,11 @@ pub fn operand(code: &[u8], at: usize) -> usize
 }
 
 // A word's four bytes, most significant first; the byte after them.
-pub fn put_word(code: &mut [u8], at: usize, op: Op, operand: u32) -> usize
+pub fn put_word(code: &mut [u8], at: usize, op: u8, operand: u32) -> usize
     requires { (at + 4 ≤ length code.old) × (operand < 16777216) }
-    ensures { (w : Word) → word_no w ≡ op_no op * 16777216 + operand → Wrote code.old at (w ∷ []) code.new result }
+    ensures { (w : Word) → word_no w ≡ op * 16777216 + operand → Wrote code.old at (w ∷ []) code.new result }
 {
-    code[at] = u8::from(op);
+    code[at] = op;
     code[at + 1] = (operand / 65536) as u8;
     code[at + 2] = (operand / 256 % 256) as u8;
     code[at + 3] = (operand % 256) as u8;

@@ -3,7 +3,6 @@ use mathlib.Core.Path.{refl, sym, ap}
 use native.Mathlib.Omega.{arith}
 use native.Mathlib.Numerals.{add-one, add-two, add-three}
 use lib.Seq.{sets}
-use Rattle.words.specs.Op.{op_no}
 use Rattle.words.proofs.WroteLaws.{word_bytes}
 use Rattle.words.proofs.put_word.Goals as goal
 
@@ -11,7 +10,7 @@ pub returns : goal.returns
 returns c w e =
     record {
       bytes =
-          simp (add-one, add-two, add-three, c.from.ensures)
-          (ap (sets c.args.code.now c.args.at) (sym (word_bytes w (op_no c.args.op) c.args.operand (omega arith) e)));
+          simp (add-one, add-two, add-three)
+          (ap (sets c.args.code.now c.args.at) (sym (word_bytes w c.args.op c.args.operand (omega arith) e)));
       after = refl;
     }
