@@ -87,6 +87,7 @@ impl fmt::Display for Difference {
     }
 }
 
+// A verdict as what `?` takes.
 fn accepted(verdict: Checked) -> Result<(), Refusal> {
     match verdict {
         Checked::Accepted => Ok(()),
