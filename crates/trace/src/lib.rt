@@ -134,6 +134,7 @@ impl Line {
             b'1' => 1,
             _ => return Err(Fault::NotABit),
         };
+        // An input word has no more bits, whatever is asked for.
         if span.most.min(u16::BITS) <= self.bits {
             return Err(Fault::ManyBits);
         }
