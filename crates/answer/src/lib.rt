@@ -2,6 +2,7 @@
 #![tactic(auto)]
 
 ghost use Rattle.std.specs.Prelude.{◌≡◌};
+ghost use Rattle.answer.specs.Checked.{answered_of};
 ghost use Rattle.answer.specs.Number.{number, place, number_of, place_of};
 
 // Why a call refuses; the place is held in the case: a bit, a transition, a state, a word, an input, a line, a row, an index, or the bytes needed.
@@ -43,6 +44,24 @@ pub type Checked = Result<(), Refusal>;
 pub struct Answered<R> {
     pub verdict: Checked,
     pub record: R,
+}
+
+impl<R: Copy> Answered<R> {
+    // The record that the call comes to; or, where it is refused, the one that it was given.
+    pub fn of(comes: Result<R, Refusal>, given: R) -> Answered<R>
+        ensures { result ≡ answered_of comes given }
+    {
+        match comes {
+            Ok(record) => Answered {
+                verdict: Ok(()),
+                record,
+            },
+            Err(why) => Answered {
+                verdict: Err(why),
+                record: given,
+            },
+        }
+    }
 }
 
 impl Refusal {

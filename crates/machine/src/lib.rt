@@ -2,15 +2,16 @@
 #![tactic(auto)]
 
 ghost use Rattle.std.specs.Prelude.{◌≡◌, false, List, [], map, ◌+◌, ◌*◌, ◌/◌, ◌%◌, ◌<◌};
+ghost use Rattle.answer.specs.Checked.{answered_of};
 ghost use mir.Val.{bool_byte};
 ghost use Rattle.words.specs.Op.{op_no};
 ghost use Rattle.words.specs.Word.{known, decode, words};
 ghost use Rattle.faults.specs.Check.{check_code};
 ghost use Rattle.machine.specs.Machine.{Frame, flag_to, out_to, exec};
-ghost use Rattle.machine.specs.Run.{record_with, mach_of, record_of, Runs};
+ghost use Rattle.machine.specs.Run.{record_with, mach_of, record_of, run_code, Runs};
 ghost use Rattle.machine.specs.inside.Midway.{mach_in, join_top, enc, Executable, Executes};
 
-use answer::Answered;
+use answer::{Answered, Refusal};
 use words::Op;
 
 // What a scan is given and hands back: flag s has weight 2^s, output a has weight 2^a.
@@ -151,18 +152,19 @@ fn execute(code: &[u8], inputs: u16, given: Record) -> Record
     }
 }
 
-// One scan: refused code hands the record back as it was given.
+// The record after one scan of code.
 #[tactic(auto, unfolding(crate::specs::Run::run_code, crate::specs::Machine::run_scan))]
+fn ran(code: &[u8], given: Record, inputs: u16, elapsed: u32) -> Result<Record, Refusal>
+    ensures { answered_of result given ≡ run_code code.now given inputs elapsed }
+{
+    faults::check_code(code)?;
+    let clock = clock::bring_forward(given.clock, elapsed);
+    Ok(execute(code, inputs, Record { clock, ..given }))
+}
+
+// One scan: refused code hands the record back as it was given.
 pub fn run(code: &[u8], given: Record, inputs: u16, elapsed: u32) -> Ran
     ensures { Runs code.now given inputs elapsed result }
 {
-    let verdict = faults::check_code(code);
-    let record = match verdict {
-        Ok(()) => {
-            let clock = clock::bring_forward(given.clock, elapsed);
-            execute(code, inputs, Record { clock, ..given })
-        }
-        Err(_) => given,
-    };
-    Answered { verdict, record }
+    Answered::of(ran(code, given, inputs, elapsed), given)
 }

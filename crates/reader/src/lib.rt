@@ -47,7 +47,9 @@ pub struct Decoded {
 
 impl Decoded {
     // Nothing is decoded yet.
-    pub fn empty() -> Decoded {
+    pub fn empty() -> Decoded
+        ensures { (result.header.states ≡ 0) × (result.header.transitions ≡ 0) }
+    {
         let header = Header {
             states: 0,
             inputs: 0,

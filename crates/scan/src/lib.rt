@@ -2,12 +2,13 @@
 #![tactic(auto)]
 
 ghost use Rattle.std.specs.Prelude.{◌≡◌, ◌<◌};
+ghost use Rattle.answer.specs.Checked.{answered_of};
 ghost use Rattle.condition.specs.inside.Reach.{cond_reach};
 ghost use Rattle.reader.specs.Sheet.{Transition, Sheet};
 ghost use Rattle.reader.specs.inside.Decoding.{Holds, Copy};
 ghost use Rattle.sheet.specs.inside.Opening.{Good};
 ghost use Rattle.scan.specs.Scan.{can, best, state_with, scan_sheet, zeros, cold_scan, Scans, ColdScans};
-ghost use Rattle.scan.specs.inside.Picking.{Picks, took_of, answered_of};
+ghost use Rattle.scan.specs.inside.Picking.{Picks, took_of};
 
 use answer::{Answered, Refusal};
 use bits::Cursor;
@@ -32,22 +33,6 @@ pub fn state_with(state: u8, outputs: u16, clock: u32) -> State
         state,
         outputs,
         clock,
-    }
-}
-
-// What a scan answers whose next record is this, or which is refused.
-fn answered(next: Result<State, Refusal>, given: State) -> Scanned
-    ensures { result ≡ answered_of next given }
-{
-    match next {
-        Ok(record) => Answered {
-            verdict: Ok(()),
-            record,
-        },
-        Err(why) => Answered {
-            verdict: Err(why),
-            record: given,
-        },
     }
 }
 
@@ -137,12 +122,12 @@ fn cold(sheet: &[u8]) -> Result<State, Refusal>
 pub fn scan(sheet: &[u8], record: State, inputs: u16, elapsed: u32) -> Scanned
     ensures { Scans sheet.now «record» inputs elapsed result }
 {
-    answered(scanned(sheet, record, inputs, elapsed), record)
+    Answered::of(scanned(sheet, record, inputs, elapsed), record)
 }
 
 // The reference's cold start, on any byte string.
 pub fn cold_scan(sheet: &[u8]) -> Scanned
     ensures { ColdScans sheet.now result }
 {
-    answered(cold(sheet), state_with(0, 0, 0))
+    Answered::of(cold(sheet), state_with(0, 0, 0))
 }
