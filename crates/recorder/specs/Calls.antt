@@ -1,6 +1,7 @@
 -- What each C call returns and leaves behind its pointers, as a relation by the call's name: over what it is given, the
 -- number that it returns and what stands behind each pointer at exit.
 use Rattle.std.specs.Prelude.{ℕ, List}
+use Rattle.answer.specs.Number.{number_of, place_of}
 use Rattle.sheet.specs.Judging.{check_sheet}
 use Rattle.scan.specs.declared.State.{State}
 use Rattle.scan.specs.Scan.{scan_sheet, cold_scan}

@@ -1,34 +1,20 @@
 -- How long the code is, and each part of it; parts of the code one behind the other.
 use mathlib.Core.Path.{◌≡◌, refl, sym, ap, ◌∙◌}
-use mathlib.Core.Bool.{Bool, true, false, cond}
+use mathlib.Core.Bool.{Bool, true, false}
 use mathlib.Core.List.{List, [], ◌∷◌, ◌++◌, append_assoc}
 use Prim.Native.Nat.{ℕ, zero, suc, ◌+◌, ◌*◌, ◌<◌}
 use native.Mathlib.Omega.{arith}
 use native.Mathlib.Nat.{suc-mul}
-use lib.Dec.{leb}
 use lib.ListN.{length, length-append, get_or}
+use Rattle.std.specs.List.{sum_by}
+use Rattle.std.proofs.lemmas.List.Sums.{sum_by-cons}
 use Rattle.condition.specs.Cond.{Cond, inp, neg, conj, disj, word_count}
 use Rattle.reader.specs.Sheet.{Transition, Sheet, row_of}
 use Rattle.words.specs.Word.{TRES, JMP}
-use Rattle.translate.specs.Translation.{
-  cond_code,
-  wait_code,
-  block,
-  key,
-  insert,
-  sort,
-  blocks,
-  row_code,
-  state_blocks,
-  wait_count,
-  block_len,
-  blocks_len,
-  state_at,
-  end_at,
-  translate,
-}
+use Rattle.translate.specs.Translation.{cond_code, wait_code, block, sort, blocks, row_code, state_blocks, wait_count, block_len, blocks_len, state_at, end_at, translate}
 use Rattle.translate.specs.Writing.{code_of}
 use Rattle.words.proofs.WordLaws.{bytes-length}
+use Rattle.translate.proofs.SortLaws.{sort-sum}
 
 -- the words of a condition, of a wait and of a block
 pub cond-length : (c : Cond) → length (cond_code c) ≡ word_count c
@@ -65,20 +51,13 @@ blocks_len-append [] us = omega arith
 blocks_len-append (t ∷ ts) us = omega (arith, blocks_len-append ts us)
 
 -- sorting keeps the words
-insert-blocks_len : (t : Transition) (ts : List Transition) → blocks_len (insert t ts) ≡ block_len t + blocks_len ts
-unfolding insert blocks_len
-insert-blocks_len t [] = refl
-insert-blocks_len t (u ∷ us) = go (leb (key t) (key u)) (insert-blocks_len t us)
-  where
-    go : (b : Bool) → blocks_len (insert t us) ≡ block_len t + blocks_len us
-        → blocks_len (cond b (t ∷ u ∷ us) (u ∷ insert t us)) ≡ block_len t + (block_len u + blocks_len us)
-    go true ih = refl
-    go false ih = omega arith
+blocks_len-sum : (ts : List Transition) → blocks_len ts ≡ sum_by block_len ts
+unfolding blocks_len
+blocks_len-sum [] = refl
+blocks_len-sum (t ∷ ts) = omega (arith, sum_by-cons block_len t ts, blocks_len-sum ts)
 
 pub sort-blocks_len : (ts : List Transition) → blocks_len (sort ts) ≡ blocks_len ts
-unfolding sort blocks_len
-sort-blocks_len [] = refl
-sort-blocks_len (t ∷ ts) = insert-blocks_len t (sort ts) ∙ ap (λ n. block_len t + n) (sort-blocks_len ts)
+sort-blocks_len ts = omega (arith, blocks_len-sum ts, blocks_len-sum (sort ts), sort-sum block_len ts)
 
 -- the words of a state's block and of all of them: every row has l outputs
 abbrev pub AllLen : ℕ → List (List Bool) → Type 0
