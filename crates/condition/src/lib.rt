@@ -117,6 +117,7 @@ pub fn read_condition(
     if 31 <= seen {
         return Err(Refusal::Big(c.at));
     }
+    // The paper's two bits, taken apart here alone.
     let operator = match tag {
         0 => return read_input(s, next, inputs, seen, word),
         1 => Operator::Not,

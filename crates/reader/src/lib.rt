@@ -165,6 +165,7 @@ fn read_names(s: &[u8], c: Cursor, n: u32) -> Read<(u8, u8)>
 }
 
 // An arrow in one number: source and priority are its highest digits, so that they order it. No bit of the 64 is left.
+// Packed, 128 of them take 1 KB of a scan's stack and not 3; and a function, for `From` cannot require what `Digits` says.
 fn packed(t: Arrow) -> u64
     requires { Digits t }
     ensures { result ≡ pack t }

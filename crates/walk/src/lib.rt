@@ -18,7 +18,7 @@ pub struct Walk {
     pub up: bool,
 }
 
-// The walk of the condition at bit `at`.
+// The walk of the condition at bit `at`. It is no Iterator: each call of `next` requires a walk that stands in a sheet.
 pub fn start(at: usize) -> Walk
     ensures { result ≡ walk_at at 1 false }
 {
