@@ -31,9 +31,8 @@ def functions(text):
         while depth:
             depth += {"(": 1, ")": -1}.get(text[at], 0)
             at += 1
-        head = text[at : text.find("\n{", at) if text.find("\n{", at) >= 0 else at]
-        opens = text.find(" {\n", at)
-        clauses = "" if 0 <= opens < text.find("\n", at) else head
+        body = re.compile(r"\n[ \t]*\{\n| \{\n|;\n").search(text, at)
+        clauses = text[at : body.start() if body else at]
         yield it.group(1), [p.strip() for p in re.split(r",\s*(?![^\[(<]*[\])>])", text[it.end() : at - 1]) if p.strip()], clauses
 
 

@@ -87,6 +87,9 @@ fn opened(op: Op, d: usize) -> usize
     }
 }
 
+// The passes below each require that the code is no longer than `end_fault` lets pass: a type that says so would be built
+// once, by `check_code`, and taken apart at each use of the code: no plainer.
+
 // 16; or else whether there is a 17. The targets of jumps are marked: jumps go forward, so that at each word all jumps to
 // it have been met.
 fn one_pass(code: &[u8]) -> Result<bool, Refusal>

@@ -108,7 +108,8 @@ fn read_header(s: &[u8]) -> Read<Header>
     Ok((header, c4))
 }
 
-// A row's field as an output word: the field has output 0 first, the word gives it weight 1.
+// A row's field as an output word: the field has output 0 first, the word gives it weight 1. The width stays the header's
+// own number, here and in the two below: a type for 1 to 16 would be made of it and taken apart again.
 fn output_word(v: u32, width: usize) -> u16
     requires { width ≤ 16 }
     ensures { result ≡ word_of (bits_of width v) }

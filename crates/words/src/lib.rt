@@ -65,7 +65,8 @@ impl TryFrom<u8> for Op {
     }
 }
 
-// The code byte of word `at`.
+// The code byte of word `at`. It and the two below require that the word is there: a type for such a place would have to
+// hold the code's loan too, and is no plainer.
 pub fn code_byte(code: &[u8], at: usize) -> u8
     requires { at * 4 + 4 ≤ length code.now }
     ensures { (result ≡ word_at code.now at / 16777216) × (result ≡ get_or code.now (at * 4) 0) }
