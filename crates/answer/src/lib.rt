@@ -5,7 +5,8 @@ ghost use Rattle.std.specs.Prelude.{◌≡◌};
 ghost use Rattle.answer.specs.Checked.{answered_of};
 ghost use Rattle.answer.specs.Number.{number, place, number_of, place_of};
 
-// Why a call refuses; the place is held in the case: a bit, a transition, a state, a word, an input, a line, a row, an index, or the bytes needed.
+// Why a call refuses; the place is held in the case: a bit, a transition, a state, a word, an input, a line, a row, an
+// index, or the bytes needed.
 // No call gives the numbers from Text on yet.
 #[derive(Clone, Copy, Debug, PartialEq, Eq)]
 pub enum Refusal {
@@ -39,7 +40,8 @@ pub enum Refusal {
 // What a check answers: that it accepts, or why it refuses.
 pub type Checked = Result<(), Refusal>;
 
-// What a call answers that hands a record on: the verdict, and the record, which is the given one where it refuses.
+// What a call answers that hands a record on: the verdict, and the record, which is the given one where it refuses. A
+// Result would hold none then, and theorem `left` promises it.
 #[derive(Clone, Copy, Debug, PartialEq, Eq)]
 pub struct Answered<R> {
     pub verdict: Checked,

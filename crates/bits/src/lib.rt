@@ -7,7 +7,7 @@ ghost use Rattle.bits.specs.Word.{get_bit, put_bit};
 
 use answer::Refusal;
 
-// The next bit to be read.
+// The next bit to be read. The bytes stand beside it: with them inside, each contract would have to say that they stay.
 #[derive(Clone, Copy, Debug, PartialEq, Eq)]
 pub struct Cursor {
     pub at: usize,
@@ -18,7 +18,7 @@ pub type Read<T> = Result<(T, Cursor), Refusal>;
 
 // The bytes before `stop` that the field at `at` is in. As many of the last ones are taken as a field of this width
 // fills at least, and its first byte, which may be one of them, is put above them: what is above a field is cut off.
-// Byte by byte and not by a fold over them, which takes twice as long a field (measured).
+// Byte by byte: a fold over them would have to tell the first, and takes twice as long a field (measured).
 fn gathered(s: &[u8], at: usize, width: usize, stop: usize) -> u64
     requires { (at < reach) × (1 ≤ width) × (width ≤ 24) × (stop ≡ (at + width + 7) / 8) × (stop ≤ length s.now) }
     ensures { result / 2 ^ (stop * 8 - (at + width)) % 2 ^ width ≡ num_at s.now at width }

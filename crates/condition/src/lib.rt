@@ -95,7 +95,8 @@ fn read_input(s: &[u8], c: Cursor, inputs: u32, seen: u32, word: u32) -> Read<Fa
 }
 
 // The condition at the cursor, at most `room` deep, of a sheet with `inputs` inputs, with `seen` nodes before it.
-// No struct holds what the cycle hands on: with one, reading a condition takes a tenth longer (measured).
+// The cycle hands its parts on one by one, as document 01 names them: with a struct of them reading a condition takes a
+// tenth longer (measured).
 #[cycle(read_condition_read_operands)]
 pub fn read_condition(
     s: &[u8],
@@ -117,7 +118,7 @@ pub fn read_condition(
     if 31 <= seen {
         return Err(Refusal::Big(c.at));
     }
-    // The paper's two bits, taken apart here alone.
+    // The paper's two bits.
     let operator = match tag {
         0 => return read_input(s, next, inputs, seen, word),
         1 => Operator::Not,

@@ -87,11 +87,9 @@ fn opened(op: Op, d: usize) -> usize
     }
 }
 
-// The passes below each require that the code is no longer than `end_fault` lets pass: a type that says so would be built
-// once, by `check_code`, and taken apart at each use of the code: no plainer.
-
 // 16; or else whether there is a 17. The targets of jumps are marked: jumps go forward, so that at each word all jumps to
-// it have been met.
+// it have been met. That the code is no longer than `end_fault` lets pass is required here and by the passes below: a type
+// that says it would be taken apart at each use of the code.
 fn one_pass(code: &[u8]) -> Result<bool, Refusal>
     requires { length code.now ≤ 32768 }
     ensures { PassTells code.now result }
@@ -153,7 +151,9 @@ fn lands_open(code: &[u8], marks: &Marks, at: usize) -> bool
     }
 }
 
-// 17, in two passes more: the first jump to such a word.
+// 17, in two passes more: the first jump to such a word. Apart, so that its marks are on the stack of refused code alone.
+#[cold]
+#[inline(never)]
 fn check_landings(code: &[u8]) -> Checked
     requires code_few { length code.now ≤ 32768 }
     requires code_sound { first_fault (length (words code.now)) 0 0 (words code.now) ≡ None }

@@ -36,8 +36,8 @@ pub fn record_with(flags: u32, outputs: u16, clock: u32) -> Record
     }
 }
 
-// The machine between two words. What is put aside stands in base 4, the last one in the lowest digit: 2 for AND(, 1 for a
-// true result.
+// The machine between two words. What is put aside, 8 at the most, stands in one number and on no heap: in base 4, the last
+// one in the lowest digit, 2 for AND(, 1 for a true result.
 #[derive(Clone, Copy, Debug, PartialEq, Eq)]
 struct Midway {
     record: Record,
@@ -84,7 +84,7 @@ impl Midway {
         };
     }
 
-    // RA and SA, in a word of 16 bits. One function for both words would be given the word and hand it back: no plainer.
+    // RA and SA, in a word of 16 bits. One function for both words would be given it and hand it back: no plainer.
     #[tactic(auto, unfolding(crate::specs::Machine::out_to))]
     fn output_to(&mut self, i: u32, on: bool)
         requires { i < 16 }
@@ -130,8 +130,8 @@ impl Midway {
     }
 }
 
-// The words from 0 to END. In code that passed its check each word is known and goes on to a later one, so that a scan is
-// no longer than the code.
+// The words from 0 to END. In code that passed its check each word is known and goes on to a later one, so that a scan
+// is no longer than the code.
 fn execute(code: &[u8], inputs: u16, given: Record) -> Record
     requires { check_code code.now ≡ Ok tt }
     ensures { result ≡ record_of (exec inputs 0 (map decode (words code.now)) 0 (mach_of given) false [] 0).mach }

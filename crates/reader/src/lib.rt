@@ -37,7 +37,8 @@ pub struct Arrow {
 }
 
 // A sheet decoded once, in a place that the caller lends: its header, its states' outputs as words, its arrows packed.
-// That the header's counts fit stands at the methods: beside a ghost field the arrays could not be lent.
+// That the header's counts fit stands at the methods: beside a ghost field the arrays could not be lent. The sheet's bytes
+// are not in it, since it is lent before they are read.
 #[derive(Drop)]
 pub struct Decoded {
     pub header: Header,
@@ -108,8 +109,8 @@ fn read_header(s: &[u8]) -> Read<Header>
     Ok((header, c4))
 }
 
-// A row's field as an output word: the field has output 0 first, the word gives it weight 1. The width stays the header's
-// own number, here and in the two below: a type for 1 to 16 would be made of it and taken apart again.
+// A row's field as an output word: the field has output 0 first, the word gives it weight 1. The width stays the
+// header's own number, here and in the two below: a type for 1 to 16 would be made of it and taken apart again.
 fn output_word(v: u32, width: usize) -> u16
     requires { width ≤ 16 }
     ensures { result ≡ word_of (bits_of width v) }
@@ -166,7 +167,8 @@ fn read_names(s: &[u8], c: Cursor, n: u32) -> Read<(u8, u8)>
 }
 
 // An arrow in one number: source and priority are its highest digits, so that they order it. No bit of the 64 is left.
-// Packed, 128 of them take 1 KB of a scan's stack and not 3; and a function, for `From` cannot require what `Digits` says.
+// Packed, 128 of them take 1 KB of a scan's stack and not 3. Functions and no `From`: packing requires `Digits`, and the
+// number is an arrow by this packing alone.
 fn packed(t: Arrow) -> u64
     requires { Digits t }
     ensures { result ≡ pack t }

@@ -23,7 +23,7 @@ pub record Left : Type 0 where
   -- "a refused translation writes no byte"
   pub unwritten : (s buffer : List ℕ) (why : Refusal) → (translate_into s buffer).answer.verdict ≡ Err why
       → ((translate_into s buffer).buffer ≡ buffer) × ((translate_into s buffer).answer.length ≡ 0)
-  -- "(Ok tt) translation writes the code from the buffer's start and no byte after it, and returns its length in bytes."
+  -- "Accepted translation writes the code from the buffer's start and no byte after it, and returns its length in bytes."
   pub written : (s buffer : List ℕ) → (translate_into s buffer).answer.verdict ≡ Ok tt
       → (a : Sheet) × (end : ℕ) × (read_sheet s ≡ ok a end)
       × ((translate_into s buffer).buffer ≡ code_of a ++ drop (length (code_of a)) buffer)

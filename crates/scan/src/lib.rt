@@ -25,7 +25,7 @@ pub struct State {
 // A scan's answer: where it is refused, the record is the one that was given.
 pub type Scanned = Answered<State>;
 
-// The one builder of a record.
+// The one builder of a record: this one is the reference's, that of `machine` has flags for the state.
 pub fn state_with(state: u8, outputs: u16, clock: u32) -> State
     ensures { result ≡ state_with state outputs clock }
 {
@@ -118,7 +118,7 @@ fn cold(sheet: &[u8]) -> Result<State, Refusal>
     Ok(state_with(0, decoded.rows[0], 0))
 }
 
-// One scan of the reference, on any byte string, record, input word and elapsed time.
+// One scan of the reference, on any byte string, record, input word and elapsed time, one by one as C hands them.
 pub fn scan(sheet: &[u8], record: State, inputs: u16, elapsed: u32) -> Scanned
     ensures { Scans sheet.now «record» inputs elapsed result }
 {

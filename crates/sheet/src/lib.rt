@@ -64,14 +64,14 @@ fn key(clash: Clash, t: Arrow) -> u16
     }
 }
 
-// The first of the keys that an earlier one equals.
+// The first of the keys that an earlier one equals: document 01's nested search, left by its label.
 fn first_alike(keys: &[u16]) -> Option<usize>
     ensures { result ≡ first_alike keys.now }
 {
     'clash: {
-        for later in 0..keys.len() {
-            for earlier in 0..later {
-                if keys[earlier] == keys[later] {
+        for (later, key) in keys.iter().enumerate() {
+            for (earlier, other) in keys[..later].iter().enumerate() {
+                if other == key {
                     break 'clash Some(later);
                 }
             }
@@ -80,7 +80,8 @@ fn first_alike(keys: &[u16]) -> Option<usize>
     }
 }
 
-// 8 PAIR and 9 RANK: the first transition that clashes with an earlier one.
+// 8 PAIR and 9 RANK: the first transition that clashes with an earlier one. Their keys are a table of their own, since the
+// search looks at each many times.
 fn first_clash(arrows: &[u64], clash: Clash) -> Option<usize>
     requires { length arrows.now ≤ 128 }
     ensures { result ≡ first_clash clash arrows.now }

@@ -65,8 +65,8 @@ impl TryFrom<u8> for Op {
     }
 }
 
-// The code byte of word `at`. It and the two below require that the word is there: a type for such a place would have to
-// hold the code's loan too, and is no plainer.
+// The code byte of word `at`. It and the two below require that the word is there: a type for such a place would have
+// to hold the code's loan too, and is no plainer.
 pub fn code_byte(code: &[u8], at: usize) -> u8
     requires { at * 4 + 4 ≤ length code.now }
     ensures { (result ≡ word_at code.now at / 16777216) × (result ≡ get_or code.now (at * 4) 0) }
@@ -89,17 +89,19 @@ pub fn operand(code: &[u8], at: usize) -> usize
     ensures { (result ≡ word_at code.now at % 16777216) × (result < 16777216) }
 {
     let b = at * 4;
-    (code[b + 1] as usize * 256 + code[b + 2] as usize) * 256 + code[b + 3] as usize
+    u32::from_be_bytes([0, code[b + 1], code[b + 2], code[b + 3]]) as usize
 }
 
-// A word's four bytes, most significant first; the byte after them.
+// A word's four bytes, most significant first; the byte after them. The code byte is a number and no `Op`, which would ask
+// more of callers.
 pub fn put_word(code: &mut [u8], at: usize, op: u8, operand: u32) -> usize
     requires { (at + 4 ≤ length code.old) × (operand < 16777216) }
     ensures { (w : Word) → word_no w ≡ op * 16777216 + operand → Wrote code.old at (w ∷ []) code.new result }
 {
+    let [_, high, middle, low] = operand.to_be_bytes();
     code[at] = op;
-    code[at + 1] = (operand / 65536) as u8;
-    code[at + 2] = (operand / 256 % 256) as u8;
-    code[at + 3] = (operand % 256) as u8;
+    code[at + 1] = high;
+    code[at + 2] = middle;
+    code[at + 3] = low;
     at + 4
 }
