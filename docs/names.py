@@ -10,7 +10,8 @@
 - a word in backquotes that looks like a definition, a theorem or a function (no blank, no dot at its front): it must stand
   somewhere in crates/, host/, include/ or examples/, or be a command of the system.
 
-docs/reviews/ is left out: a review names what was there on its day. So is docs/PORT.md, which has names of two days.
+docs/reviews/ is left out: a review names what was there on its day. So are docs/PORT.md and docs/DESIGN-PASS.md, which have names
+of two days.
 """
 import os
 import re
@@ -19,7 +20,7 @@ import sys
 TOP = os.path.dirname(os.path.dirname(os.path.abspath(__file__)))
 CRATES = os.path.join(TOP, 'crates')
 PAGES = ['README.md', 'host/README.md']
-PAGES += sorted('docs/' + name for name in os.listdir(os.path.join(TOP, 'docs')) if name.endswith('.md') and name != 'PORT.md')
+PAGES += sorted('docs/' + name for name in os.listdir(os.path.join(TOP, 'docs')) if name.endswith('.md') and name not in ('PORT.md', 'DESIGN-PASS.md'))
 COMMANDS = {'rt', 'PATH', 'apt-get', 'callgrind_annotate'}
 WORD = r'[^\s(){}\[\],;.`"|]+'
 

@@ -118,12 +118,12 @@ fn one_pass(code: &[u8]) -> Result<bool, Refusal>
 }
 
 // Marks each word before which a parenthesis is open.
-fn mark_open(code: &[u8]) -> Marks
-    requires { length code.now ≤ 32768 }
+fn mark_open(code: &[u8], marks: &mut Marks)
+    requires code_few { length code.now ≤ 32768 }
+    requires none { marks.old.bits ≡ replicate 256 0 }
     ensures { let ws = words code.now in
-        (k : ℕ) → k < length ws → marked result.bits k ≡ ltb 0 (depth_at 0 (map decode ws) k) }
+        (k : ℕ) → k < length ws → marked marks.new.bits k ≡ ltb 0 (depth_at 0 (map decode ws) k) }
 {
-    let mut marks = Marks::none();
     let mut d = 0;
     for at in 0..code.len() / 4 {
         if 0 < d {
@@ -133,7 +133,6 @@ fn mark_open(code: &[u8]) -> Marks
             d = opened(op, d);
         }
     }
-    marks
 }
 
 // Whether word `at` is a jump to a word before which a parenthesis is open.
@@ -159,7 +158,8 @@ fn check_landings(code: &[u8]) -> Checked
     requires code_sound { first_fault (length (words code.now)) 0 0 (words code.now) ≡ None }
     ensures { let is = map decode (words code.now) in result ≡ refuse_at Landing (first_landing is 0 is) (Ok tt) }
 {
-    let marks = mark_open(code);
+    let mut marks = Marks::none();
+    mark_open(code, &mut marks);
     for at in 0..code.len() / 4 {
         if lands_open(code, &marks, at) {
             return Err(Refusal::Landing(at));

@@ -36,7 +36,7 @@ deeper c =
 pub loop-at-init : goal.loop-at-init
 loop-at-init c =
     let ws = words c.args.code.now in
-    (deep-start ws, rw c.none-marks.ensures (marked-start (inside ws)))
+    (deep-start ws, rw c.requires.none (marked-start (inside ws)))
 
 pub loop-at-preserved : goal.loop-at-preserved
 loop-at-preserved c =

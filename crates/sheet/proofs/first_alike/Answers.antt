@@ -1,21 +1,27 @@
 -- `sheet::first_alike` meets its contract. Assumes nothing.
-use mathlib.Core.Path.{sym, ◌∙◌}
-use Prim.Native.Nat.{◌≤◌, ◌<◌}
+use mathlib.Core.Path.{◌≡◌, sym, ◌∙◌}
 use native.Mathlib.Omega.{arith}
-use lib.ListN.{length}
+use lib.ListN.{length, take}
 use Rattle.std.proofs.lemmas.List.{get_or-take, length-take-le}
 use Rattle.sheet.proofs.ClashLaws.{clash-hit, clash-end}
 use Rattle.sheet.proofs.first_alike.Goals as goal
 
-pub returns-then-other-key : goal.returns-then-other-key
-returns-then-other-key c =
+pub returns-then-keys-earlier : goal.returns-then-keys-earlier
+returns-then-keys-earlier c =
     let keys = c.args.keys.now in
-    let later = c.loop-later.later in
-    let inside : later < length keys = omega arith in
-    let before : c.loop-earlier.earlier < later = omega (arith, length-take-le later keys (omega arith)) in
-    sym
-    (clash-hit keys c.loop-earlier.earlier _ before inside c.loop-later.invariant
-    (sym (get_or-take later keys c.loop-earlier.earlier 0 before) ∙ c.if-other-key.true))
+    let m = c.args.m in
+    let i = c.loop-earlier.earlier in
+    let j = c.loop-later.later in
+    let long : length (take m keys) ≡ m = length-take-le m keys (omega arith) in
+    let alike =
+    get_or-take m keys i 0 (omega arith)
+    ∙ c.if-keys-earlier.true
+    ∙ sym (get_or-take m keys j 0 (omega arith)) in
+    sym (clash-hit (take m keys) i j (omega arith) (omega (arith, long)) c.loop-later.invariant alike)
 
 pub returns-after-loop-later : goal.returns-after-loop-later
-returns-after-loop-later c = sym (clash-end c.args.keys.now (λ j l. c.loop-later.invariant j (omega arith)))
+returns-after-loop-later c =
+    let keys = c.args.keys.now in
+    let m = c.args.m in
+    let long : length (take m keys) ≡ m = length-take-le m keys (omega arith) in
+    sym (clash-end (take m keys) (λ j l. c.loop-later.invariant j (omega (arith, long))))
