@@ -1,7 +1,7 @@
 // The rules of a sheet: numbers 7 to 13, and the check that answers every byte string.
 #![tactic(auto)]
 
-ghost use Rattle.std.specs.Prelude.{take, ◌≡◌, List, ℕ, ◌≤◌, length};
+ghost use Rattle.std.specs.Prelude.{◌≡◌, List, ℕ, ◌≤◌, length};
 ghost use Rattle.answer.specs.Lowest.{first_below};
 ghost use Rattle.reader.specs.Sheet.{Sheet};
 ghost use Rattle.reader.specs.inside.Decoding.{Copy};
@@ -64,17 +64,14 @@ fn key(clash: Clash, t: Arrow) -> u16
     }
 }
 
-// The first of m keys that an earlier one equals: document 01's nested search, left by its label. It is given an array and
-// how many of it count: of an array eight keys are compared at a time, and over a slice a sheet's check takes a fifth more.
-fn first_alike(keys: &[u16; 128], m: usize) -> Option<usize>
-    requires { m ≤ 128 }
-    ensures { result ≡ first_alike (take m keys.now) }
+// The first of the keys that an earlier one equals: document 01's nested search, left by its label.
+fn first_alike(keys: &[u16]) -> Option<usize>
+    ensures { result ≡ first_alike keys.now }
 {
     'clash: {
-        for later in 0..m {
-            let key = keys[later];
+        for later in 0..keys.len() {
             for earlier in 0..later {
-                if keys[earlier] == key {
+                if keys[earlier] == keys[later] {
                     break 'clash Some(later);
                 }
             }
@@ -93,7 +90,7 @@ fn first_clash(arrows: &[u64], clash: Clash) -> Option<usize>
     for (i, w) in arrows.iter().enumerate() {
         keys[i] = key(clash, reader::unpacked(*w));
     }
-    first_alike(&keys, arrows.len())
+    first_alike(&keys[..arrows.len()])
 }
 
 // The word whose bit s says that state s has a transition to 0.
