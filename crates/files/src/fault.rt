@@ -1,4 +1,9 @@
 // Why a file or a stream was not read or written, and how that is told.
+ghost use Rattle.std.specs.Prelude.{◌≡◌, IfOk};
+ghost use Rattle.std.specs.IoError.{error_kind};
+ghost use Rattle.std.specs.declared.io.ErrorKind.TheVariants.{BrokenPipe};
+ghost use Rattle.files.specs.Fault.{IsLine, IsOfFile};
+
 use std::alloc::{AllocError, AllocFailed, Global};
 use std::fmt::InlineText;
 use std::io::{ErrorKind, Write};
@@ -17,7 +22,9 @@ pub enum Fault {
 
 impl Fault {
     // A fault of the file of this name.
-    pub fn of_file(alloc: Global, name: &[u8], error: io::Error) -> Fault {
+    pub fn of_file(alloc: Global, name: &[u8], error: io::Error) -> Fault
+        ensures { IsOfFile name.now error result }
+    {
         match name.to_vec(alloc) {
             Ok(name) => Fault::File { name, error },
             Err(_) => Fault::OutOfMemory,
@@ -25,7 +32,10 @@ impl Fault {
     }
 
     // A fault of a stream that is written to.
-    pub fn of_stream(alloc: Global, name: &[u8], error: io::Error) -> Fault {
+    pub fn of_stream(alloc: Global, name: &[u8], error: io::Error) -> Fault
+        ensures unread { error_kind error ≡ BrokenPipe → result ≡ Fault.Closed }
+        ensures other { ¬ (error_kind error ≡ BrokenPipe) → IsOfFile name.now error result }
+    {
         if error.kind() == ErrorKind::BrokenPipe {
             return Fault::Closed;
         }
@@ -33,7 +43,9 @@ impl Fault {
     }
 
     // The fault's line, which is empty where nobody reads.
-    pub fn line(&self, alloc: Global) -> io::Result<Vec<u8>> {
+    pub fn line(&self, alloc: Global) -> io::Result<Vec<u8>>
+        ensures { IfOk result (λ line. IsLine self.now line.items) }
+    {
         let mut line = Vec::new(alloc);
         match self {
             Fault::File { name, error } => {
@@ -56,12 +68,20 @@ pub fn write_output<W: io::Write>(alloc: Global, to: &mut W, bytes: &[u8]) -> Re
 }
 
 impl From<AllocError> for Fault {
+    ghost use Rattle.files.specs.declared.fault.Fault.TheVariants.{OutOfMemory};
+
+    ghost from_gives = { λ _ fault. fault ≡ OutOfMemory };
+
     fn from(_: AllocError) -> Fault {
         Fault::OutOfMemory
     }
 }
 
 impl<T: Drop> From<AllocFailed<T>> for Fault {
+    ghost use Rattle.files.specs.declared.fault.Fault.TheVariants.{OutOfMemory};
+
+    ghost from_gives = { λ _ fault. fault ≡ OutOfMemory };
+
     fn from(_: AllocFailed<T>) -> Fault {
         Fault::OutOfMemory
     }
@@ -80,5 +100,23 @@ impl fmt::Display for Reason<'_> {
             _ => all,
         };
         f.write_str(reason)
+    }
+}
+
+#[cfg(test)]
+mod tests {
+    use super::*;
+    use std::test::Fail;
+
+    // The system's number for a file that there is not, and its words.
+    #[test]
+    fn tells_a_missing_file(rt: HostRuntime) -> Result<(), Fail> {
+        let missing = io::Error::from_raw_os_error(2);
+        let line = Fault::of_file(rt.alloc(), b"a\nb.sheet", missing).line(rt.alloc())?;
+        assert_eq!(rt;
+            line.as_slice(),
+            b"chz: a?b.sheet: No such file or directory\n".as_slice()
+        );
+        Ok(())
     }
 }

@@ -1,4 +1,7 @@
 // The words that the program was given.
+ghost use Rattle.std.specs.Prelude.{◌≡◌, None, IsSome, MatchResult};
+ghost use Rattle.files.specs.Name.{word_bytes};
+
 use crate::fault::Fault;
 use std::alloc::{AllocError, Global};
 use std::env::{Env, FillError};
@@ -15,7 +18,9 @@ pub struct Word {
 
 impl Word {
     // The bytes of the word, none where it is too long.
-    pub fn bytes(&self) -> &[u8] {
+    pub fn bytes(&self) -> &[u8]
+        ensures { result.now ≡ word_bytes self.now }
+    {
         match &self.held {
             Some(bytes) => bytes.as_slice(),
             None => b"",
@@ -23,7 +28,10 @@ impl Word {
     }
 
     // The word as a file's name; a fault says whose name it is.
-    pub fn name(&self, alloc: Global, whose: &str) -> Result<&[u8], Fault> {
+    pub fn name(&self, alloc: Global, whose: &str) -> Result<&[u8], Fault>
+        ensures { MatchResult result (λ name. IsSome self.now.held × (name.now ≡ word_bytes self.now))
+            (λ _. self.now.held ≡ None) }
+    {
         match &self.held {
             Some(bytes) => Ok(bytes.as_slice()),
             None => {
@@ -55,4 +63,20 @@ pub fn words(rt: &HostRuntime) -> Result<Vec<Word>, AllocError> {
         }
     }
     Ok(all)
+}
+
+#[cfg(test)]
+mod tests {
+    use super::*;
+    use std::test::Fail;
+
+    // However many words the test is given, the one after the last that is found is none.
+    #[test]
+    fn finds_all_words(rt: HostRuntime) -> Result<(), Fail> {
+        let all = words(&rt)?;
+        let mut room = [0u8; 4096];
+        let next = rt.arg(all.len().saturating_add(1), &mut room);
+        assert!(rt; matches!(next, Err(FillError::NotPresent)));
+        Ok(())
+    }
 }

@@ -32,3 +32,16 @@ fn read_to_end(rt: &HostRuntime, name: &[u8], most: u64) -> io::Result<Vec<u8>> 
 pub fn read_file(rt: &HostRuntime, name: &[u8], most: u64) -> Result<Vec<u8>, Fault> {
     read_to_end(rt, name, most).map_err(|e| Fault::of_file(rt.alloc(), name, e))
 }
+
+#[cfg(test)]
+mod tests {
+    use super::*;
+    use std::test::Fail;
+
+    #[test]
+    fn reads_the_most_that_is_wanted(rt: HostRuntime) -> Result<(), Fail> {
+        let zeros = read_file(&rt, b"/dev/zero", 3)?;
+        assert_eq!(rt; zeros.as_slice(), [0, 0, 0].as_slice());
+        Ok(())
+    }
+}

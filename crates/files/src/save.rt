@@ -1,4 +1,7 @@
 // Bytes to a file that is the old one or the whole new one, whatever happens between.
+ghost use Rattle.std.specs.Prelude.{◌≡◌, IfOk, IsTrue, ◌↔◌};
+ghost use Rattle.files.specs.Name.{IsOutput};
+
 use crate::fault::Fault;
 use crate::{fault, named};
 use std::fs::File;
@@ -29,7 +32,9 @@ enum Target {
 }
 
 // Whether a name is standard output's.
-pub fn is_output(name: &[u8]) -> bool {
+pub fn is_output(name: &[u8]) -> bool
+    ensures { IsTrue result ↔ IsOutput name.now }
+{
     matches!(name, b"-" | b"/dev/stdout")
 }
 
@@ -79,7 +84,9 @@ impl Save<'_> {
     }
 
     // A pipe is asked for and not found by opening it: whoever reads it would take the close for its end.
-    fn target(&self) -> io::Result<Target> {
+    fn target(&self) -> io::Result<Target>
+        ensures { IfOk result (λ to. to ≡ Target.File → ¬ IsOutput self.now.name.now) }
+    {
         if is_output(self.name) {
             return Ok(Target::Output);
         }
@@ -136,7 +143,9 @@ impl Save<'_> {
         named::open_append(self.rt, self.name)?.write_all(self.bytes)
     }
 
-    fn write(&self) -> Result<Wrote, Fault> {
+    fn write(&self) -> Result<Wrote, Fault>
+        ensures { IfOk result (λ wrote. wrote ≡ Wrote.File → ¬ IsOutput self.now.name.now) }
+    {
         let alloc = self.rt.alloc();
         match self.target().map_err(|e| self.fault(e))? {
             Target::Output => fault::write_output(alloc, &mut self.rt.stdout(), self.bytes)?,
@@ -153,6 +162,8 @@ impl Save<'_> {
 }
 
 // The bytes to the file or the stream of that name.
-pub fn write_file(rt: &HostRuntime, name: &[u8], bytes: &[u8]) -> Result<Wrote, Fault> {
+pub fn write_file(rt: &HostRuntime, name: &[u8], bytes: &[u8]) -> Result<Wrote, Fault>
+    ensures { IfOk result (λ wrote. wrote ≡ Wrote.File → ¬ IsOutput name.now) }
+{
     Save { rt, name, bytes }.write()
 }

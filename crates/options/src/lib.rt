@@ -1,7 +1,8 @@
 // The words after a command: its options, each with a value, and its files.
 #![tactic(auto)]
 
-ghost use Rattle.std.specs.Prelude.{◌≤◌, IfOk, IfSome};
+ghost use Rattle.std.specs.Prelude.{◌≡◌, ◌≤◌, [], IfOk, IfSome, IsTrue, ◌↔◌};
+ghost use Rattle.options.specs.Given.{IsOptionWord, IsPlain, NoOptionAmong};
 
 use files::Word;
 use status::Fault;
@@ -34,7 +35,9 @@ enum Kind {
     File,
 }
 
-fn kind_of(word: &[u8]) -> Kind {
+fn kind_of(word: &[u8]) -> Kind
+    ensures { result ≡ Kind.File → ¬ IsOptionWord word.now }
+{
     match word {
         b"--code" => Kind::Option(Named::Code),
         b"--sheet" => Kind::Option(Named::Sheet),
@@ -46,7 +49,10 @@ fn kind_of(word: &[u8]) -> Kind {
 }
 
 impl<'a> Options<'a> {
-    fn none(alloc: Global) -> Options<'a> {
+    fn none(alloc: Global) -> Options<'a>
+        ensures plain { IsPlain result }
+        ensures files { result.files.items ≡ [] }
+    {
         Options {
             code: None,
             sheet: None,
@@ -56,7 +62,9 @@ impl<'a> Options<'a> {
         }
     }
 
-    fn set(&mut self, named: Named, value: &'a Word) {
+    fn set(&mut self, named: Named, value: &'a Word)
+        ensures { self.new.files ≡ self.old.files }
+    {
         match named {
             Named::Code => self.code = Some(value),
             Named::Sheet => self.sheet = Some(value),
@@ -66,7 +74,9 @@ impl<'a> Options<'a> {
     }
 
     // All words after a command. An option that stands twice has the last value.
-    pub fn of(alloc: Global, words: &'a [Word]) -> Result<Options<'a>, Fault> {
+    pub fn of(alloc: Global, words: &'a [Word]) -> Result<Options<'a>, Fault>
+        ensures { IfOk result (λ options. NoOptionAmong options.files.items) }
+    {
         let mut options = Options::none(alloc);
         // The option whose value the next word is, with its own word.
         let mut lacking = None;
@@ -93,7 +103,9 @@ impl<'a> Options<'a> {
     }
 
     // Whether no option is given.
-    pub fn is_plain(&self) -> bool {
+    pub fn is_plain(&self) -> bool
+        ensures { IsTrue result ↔ IsPlain self.now }
+    {
         self.code.is_none() && self.sheet.is_none() && self.state.is_none() && self.clock.is_none()
     }
 }
@@ -119,5 +131,22 @@ pub fn number_up_to(
     match number_of(word.bytes()) {
         Some(n) if n <= most => Ok(Some(n)),
         _ => Err(Fault::Usage(usage)),
+    }
+}
+
+#[cfg(test)]
+mod tests {
+    use super::*;
+    use std::test::Fail;
+
+    // The words of a test are its runner's own, so no word is all that a test can give.
+    #[test]
+    fn takes_no_word(rt: HostRuntime) -> Result<(), Fail> {
+        let Ok(options) = Options::of(rt.alloc(), &[]) else {
+            return Err(Fail::new("no word is refused"));
+        };
+        assert!(rt; options.is_plain());
+        assert_eq!(rt; options.files.len(), 0);
+        Ok(())
     }
 }

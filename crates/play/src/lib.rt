@@ -1,6 +1,8 @@
 // A trace played: its scans made and printed, a line a scan.
 #![tactic(auto)]
 
+ghost use Rattle.std.specs.Prelude.{◌≡◌};
+
 use start::{Difference, Run};
 use std::alloc::{AllocError, Global};
 use std::fmt::Display;
@@ -20,18 +22,30 @@ pub enum Fault {
 }
 
 impl From<BadLine> for Fault {
+    ghost use Rattle.play.specs.declared.Fault.TheVariants as fault;
+
+    ghost from_gives = { λ line told. told ≡ fault.BadLine line };
+
     fn from(line: BadLine) -> Fault {
         Fault::BadLine(line)
     }
 }
 
 impl From<Difference> for Fault {
+    ghost use Rattle.play.specs.declared.Fault.TheVariants as fault;
+
+    ghost from_gives = { λ difference told. told ≡ fault.Differs difference };
+
     fn from(difference: Difference) -> Fault {
         Fault::Differs(difference)
     }
 }
 
 impl From<AllocError> for Fault {
+    ghost use Rattle.play.specs.declared.Fault.TheVariants as fault;
+
+    ghost from_gives = { λ _ told. told ≡ fault.OutOfMemory };
+
     fn from(_: AllocError) -> Fault {
         Fault::OutOfMemory
     }
@@ -166,4 +180,42 @@ pub fn play_trace<R: io::Read, W: io::Write + Drop>(
     let played = play.follow(from);
     play.page.write_out()?;
     played
+}
+
+#[cfg(test)]
+mod tests {
+    use super::*;
+    use start::Source;
+    use std::test::Fail;
+
+    // The paper's sheet M and its code, which stay in state 0.
+    const M: [u8; 9] = [8, 0, 8, 32, 0, 0, 0, 0, 128];
+
+    const CODE_OF_M: [u8; 64] = [
+        1, 0, 0, 1, 4, 0, 0, 0, 2, 0, 0, 0, 3, 0, 0, 0, 6, 0, 0, 0, 8, 0, 0, 1, 9, 0, 0, 0, 12, 0,
+        0, 9, 13, 0, 0, 15, 11, 0, 0, 0, 14, 0, 0, 0, 13, 0, 0, 15, 10, 0, 0, 0, 14, 0, 0, 0, 13,
+        0, 0, 15, 0, 0, 0, 0,
+    ];
+
+    const TABLE: [&str; 4] = [
+        "           scan               time ms  inputs  state  outputs    clock ms\n",
+        "              0                     0  -           0  1                 0  cold start\n",
+        "              1                     7  1           0  1                 7  stayed\n",
+        "ended: 1 scan, 7 ms, state 0\n",
+    ];
+
+    #[test]
+    fn plays_a_scan(rt: HostRuntime) -> Result<(), Fail> {
+        let Ok(run) = Run::beside(&M, &CODE_OF_M, Source::Translated, None) else {
+            return Err(Fail::new("M is refused"));
+        };
+        let mut from = b"1 7\n".as_slice();
+        let mut written = Vec::new(rt.alloc());
+        if play_trace(rt.alloc(), run, &mut from, &mut written).is_err() {
+            return Err(Fail::new("the trace is not played"));
+        }
+        let table = format!(in rt.alloc(); "{}{}{}{}", TABLE[0], TABLE[1], TABLE[2], TABLE[3])?;
+        assert_eq!(rt; written.as_slice(), table.as_bytes());
+        Ok(())
+    }
 }

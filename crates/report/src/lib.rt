@@ -1,6 +1,9 @@
 // What is said of a sheet and of code, and the commands that check them.
 #![tactic(auto)]
 
+ghost use Rattle.std.specs.Prelude.{◌≡◌, Err, IfErr, IfOk, OnOk};
+ghost use Rattle.sheet.specs.Judging.{check_sheet};
+
 use files::Word;
 use reader::{Decoded, Header};
 use status::{Fault, Status};
@@ -74,7 +77,10 @@ pub fn read_file(rt: &HostRuntime, word: &Word, most: u64) -> Result<Vec<u8>, fi
     files::read_file(rt, word.name(rt.alloc(), "a file's name")?, most)
 }
 
-pub fn check_sheet(rt: &HostRuntime, sheet: &[u8]) -> Result<Status, Fault> {
+pub fn check_sheet(rt: &HostRuntime, sheet: &[u8]) -> Result<Status, Fault>
+    ensures refused { IfErr (check_sheet sheet.now) (λ why. result ≡ Err (Fault.Refused why)) }
+    ensures accepted { IfOk result (λ status. status ≡ Status.Accepted) }
+{
     sheet::check_sheet(sheet)?;
     status::tell(
         rt,
@@ -84,14 +90,41 @@ pub fn check_sheet(rt: &HostRuntime, sheet: &[u8]) -> Result<Status, Fault> {
     Ok(Status::Accepted)
 }
 
-pub fn check_command(rt: &HostRuntime, word: &Word) -> Result<Status, Fault> {
+pub fn check_command(rt: &HostRuntime, word: &Word) -> Result<Status, Fault>
+    ensures { IfOk result (λ status. status ≡ Status.Accepted) }
+{
     let sheet = read_file(rt, word, SHEET_BYTES)?;
     check_sheet(rt, sheet.as_slice())
 }
 
-pub fn check_code_command(rt: &HostRuntime, word: &Word) -> Result<Status, Fault> {
+pub fn check_code_command(rt: &HostRuntime, word: &Word) -> Result<Status, Fault>
+    ensures { IfOk result (λ status. status ≡ Status.Accepted) }
+{
     let code = read_file(rt, word, CODE_BYTES)?;
     faults::check_code(code.as_slice())?;
     tell_code(rt, &mut rt.stdout(), "accepted", code.len())?;
     Ok(Status::Accepted)
+}
+
+#[cfg(test)]
+mod tests {
+    use super::*;
+    use std::test::Fail;
+
+    // The paper's sheet M, P3, and the code of P11: 71 bits, 16 words and 64 bytes.
+    #[test]
+    fn tells_sizes(rt: HostRuntime) -> Result<(), Fail> {
+        let mut told = Vec::new(rt.alloc());
+        tell_code(&rt, &mut told, "translated", 64)?;
+        assert_eq!(rt;
+            told.as_slice(),
+            b"translated: 16 words, 64 bytes\n".as_slice()
+        );
+        let size = size_of(&[8, 0, 8, 32, 0, 0, 0, 0, 128]).to_string(rt.alloc())?;
+        assert_eq!(rt;
+            size.as_str(),
+            "2 states, 1 input, 1 output, 1 transition, 71 bits"
+        );
+        Ok(())
+    }
 }

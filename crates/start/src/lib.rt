@@ -2,7 +2,11 @@
 // with a state and a clock that were asked for, and each scan holds the two records against one another.
 #![tactic(auto)]
 
-ghost use Rattle.std.specs.Prelude.{◌≡◌, ◌^◌, IfSome};
+ghost use Rattle.std.specs.Prelude.{◌≡◌, ◌^◌, ◌<◌, ◌↔◌, None, Some, IfErr, IfOk, IfSome, IsOk, IsSome, IsTrue, MatchOption, OnOk, false};
+ghost use Rattle.machine.specs.Run.{record_with};
+ghost use Rattle.scan.specs.Scan.{cold_scan, scan_sheet, state_with};
+ghost use Rattle.translate.specs.Writing.{cold_run};
+ghost use Rattle.start.specs.Run.{Agrees, ran_of};
 
 use answer::Refusal;
 use machine::Record;
@@ -20,11 +24,15 @@ pub struct Start {
 }
 
 impl Start {
-    fn record(self, outputs: u16) -> Record {
+    fn record(self, outputs: u16) -> Record
+        ensures { self.state < 32 → result ≡ record_with (2 ^ self.state) outputs self.clock }
+    {
         machine::record_with(flag_of(self.state).unwrap_or(0), outputs, self.clock)
     }
 
-    fn reference(self, outputs: u16) -> State {
+    fn reference(self, outputs: u16) -> State
+        ensures { result ≡ state_with self.state outputs self.clock }
+    {
         scan::state_with(self.state, outputs, self.clock)
     }
 }
@@ -67,7 +75,9 @@ pub struct Difference {
 
 impl Difference {
     // Whether the code came from a file, and so need not do what the sheet says.
-    pub fn is_of_given(&self) -> bool {
+    pub fn is_of_given(&self) -> bool
+        ensures { MatchOption self.now.reference (result ≡ false) (λ r. IsTrue result ↔ (r.0 ≡ Source.Given)) }
+    {
         matches!(self.reference, Some((Source::Given, _)))
     }
 }
@@ -89,7 +99,8 @@ impl fmt::Display for Difference {
 
 // The flag of a state's number, if there is one.
 fn flag_of(state: u8) -> Option<u32>
-    ensures { IfSome result (λ flag. flag ≡ 2 ^ state) }
+    ensures flag { IfSome result (λ flag. flag ≡ 2 ^ state) }
+    ensures known { IsSome result ↔ (state < 32) }
 {
     if state < 32 { Some(1 << state) } else { None }
 }
@@ -102,7 +113,9 @@ fn read(sheet: &[u8]) -> Decoded {
 }
 
 // Whether the runner's record is the reference's: its one flag is the state's, outputs and clock are the same.
-fn agree(record: Record, state: State) -> bool {
+fn agree(record: Record, state: State) -> bool
+    ensures { IsTrue result ↔ Agrees «record» state }
+{
     flag_of(state.state) == Some(record.flags)
         && record.outputs == state.outputs
         && record.clock == state.clock
@@ -115,7 +128,14 @@ impl<'a> Run<'a> {
         code: &'a [u8],
         source: Source,
         start: Option<Start>,
-    ) -> Result<Self, Refusal> {
+    ) -> Result<Self, Refusal>
+        ensures cold { start ≡ None → IsOk result }
+        ensures refused { IfSome start (λ s. IfErr (scan_sheet sheet.now (state_with s.state 0 s.clock) 0 0).verdict (λ why. result ≡ Err why)) }
+        ensures code { IfOk result (λ run. run.code.now ≡ code.now) }
+        ensures reference { IfOk result (λ run. MatchOption run.reference ⊥ (λ r. (r.sheet.now ≡ sheet.now) × (r.source ≡ source))) }
+        ensures begun { IfOk result (λ run. (run.scans ≡ 0) × (run.time ≡ 0)) }
+        ensures from_cold { start ≡ None → IfOk result (λ run. (run.record ≡ (cold_run sheet.now).«record») × IfSome run.reference (λ r. r.state ≡ (cold_scan sheet.now).«record»)) }
+    {
         let Decoded { header, rows, .. } = read(sheet);
         let (record, state) = match start {
             None => (
@@ -153,7 +173,12 @@ impl<'a> Run<'a> {
     }
 
     // Code alone: only a sheet says what a state's outputs are, so they begin as 0.
-    pub fn alone(code: &'a [u8], start: Option<Start>) -> Self {
+    pub fn alone(code: &'a [u8], start: Option<Start>) -> Self
+        ensures code { result.code.now ≡ code.now }
+        ensures alone { result.reference ≡ None }
+        ensures begun { (result.scans ≡ 0) × (result.time ≡ 0) }
+        ensures record_of { MatchOption start (result.«record» ≡ record_with 1 0 0) (λ s. s.state < 32 → result.«record» ≡ record_with (2 ^ s.state) 0 s.clock) }
+    {
         let start = start.unwrap_or_default();
         Run {
             code,
@@ -170,7 +195,10 @@ impl<'a> Run<'a> {
         }
     }
 
-    fn difference(&self) -> Difference {
+    fn difference(&self) -> Difference
+        ensures scan { result.scan ≡ self.now.scans }
+        ensures record_of { result.«record» ≡ self.now.«record» }
+    {
         Difference {
             scan: self.scans,
             record: self.record,
@@ -179,7 +207,12 @@ impl<'a> Run<'a> {
     }
 
     // The reference's scan, held against the record that the code left.
-    fn compare(&mut self, entry: Entry) -> bool {
+    fn compare(&mut self, entry: Entry) -> bool
+        ensures agreed { IsTrue result → IfSome self.new.reference (λ r. Agrees self.new.«record» r.state) }
+        ensures record_of { self.new.«record» ≡ self.old.«record» }
+        ensures scans { self.new.scans ≡ self.old.scans }
+        ensures alone { self.old.reference ≡ None → IsTrue result }
+    {
         let Some(reference) = &mut self.reference else {
             return true;
         };
@@ -194,7 +227,13 @@ impl<'a> Run<'a> {
     }
 
     // One scan, by the code and, where there is one, by the reference.
-    pub fn scan(&mut self, entry: Entry) -> Result<Change, Difference> {
+    pub fn scan(&mut self, entry: Entry) -> Result<Change, Difference>
+        ensures ran { self.new.«record» ≡ (ran_of self.old entry).«record» }
+        ensures agreed { OnOk result (IfSome self.new.reference (λ r. Agrees self.new.«record» r.state)) }
+        ensures accepted { OnOk result ((ran_of self.old entry).verdict ≡ Ok tt) }
+        ensures stayed { IfOk result (λ change. (change ≡ Change.Stayed) ↔ (self.old.«record».flags ≡ self.new.«record».flags)) }
+        ensures differs { IfErr result (λ d. (d.scan ≡ self.new.scans) × (d.«record» ≡ self.new.«record»)) }
+    {
         let before = self.record.flags;
         self.scans = self.scans.saturating_add(1);
         self.time = self.time.saturating_add(u64::from(entry.elapsed));

@@ -1,6 +1,10 @@
 // How a command ends, and what it says of that.
 #![tactic(auto)]
 
+ghost use Rattle.std.specs.Prelude.{◌≡◌};
+ghost use Rattle.files.specs.Name.{word_bytes};
+ghost use Rattle.status.specs.Ending.{EndsWith, IsOfWord};
+
 use answer::Refusal;
 use explain::Explained;
 use files::Word;
@@ -28,6 +32,11 @@ const MOST: usize = 4096;
 
 // What the program ends with, by which the launcher learns the status.
 impl From<Status> for ExitCode {
+    ghost use Rattle.std.specs.Process.{exit_status};
+    ghost use Rattle.status.specs.Ending.{exit_of};
+
+    ghost from_gives = { λ status code. exit_status code ≡ exit_of status };
+
     fn from(status: Status) -> ExitCode {
         ExitCode::from(match status {
             Status::Accepted => 0u8,
@@ -52,7 +61,9 @@ pub enum Fault {
 }
 
 impl Fault {
-    pub fn of_word(alloc: Global, what: &'static str, word: &Word) -> Fault {
+    pub fn of_word(alloc: Global, what: &'static str, word: &Word) -> Fault
+        ensures { IsOfWord what.now (word_bytes word.now) result }
+    {
         match word.bytes().to_vec(alloc) {
             Ok(word) => Fault::Word { what, word },
             Err(e) => Fault::from(e),
@@ -60,7 +71,9 @@ impl Fault {
     }
 
     // Tells the fault, a refusal on standard output and all else on standard error: the status that the command ends with.
-    pub fn tell(&self, rt: &HostRuntime) -> Status {
+    pub fn tell(&self, rt: &HostRuntime) -> Status
+        ensures { EndsWith self.now result }
+    {
         match self {
             Fault::Usage(what) => say(rt, usage_lines(rt.alloc(), what)),
             Fault::Word { what, word } => say(rt, word_lines(rt.alloc(), what, word.as_slice())),
@@ -75,24 +88,42 @@ impl Fault {
 }
 
 impl From<files::Fault> for Fault {
+    ghost use Rattle.status.specs.declared.Fault.TheVariants.{File};
+
+    ghost from_gives = { λ fault told. told ≡ File fault };
+
     fn from(fault: files::Fault) -> Fault {
         Fault::File(fault)
     }
 }
 
 impl From<Refusal> for Fault {
+    ghost use Rattle.status.specs.declared.Fault.TheVariants.{Refused};
+
+    ghost from_gives = { λ why told. told ≡ Refused why };
+
     fn from(why: Refusal) -> Fault {
         Fault::Refused(why)
     }
 }
 
 impl From<AllocError> for Fault {
+    ghost use Rattle.files.specs.declared.Fault.TheVariants.{OutOfMemory};
+    ghost use Rattle.status.specs.declared.Fault.TheVariants.{File};
+
+    ghost from_gives = { λ _ told. told ≡ File OutOfMemory };
+
     fn from(e: AllocError) -> Fault {
         Fault::File(files::Fault::from(e))
     }
 }
 
 impl<T: Drop> From<AllocFailed<T>> for Fault {
+    ghost use Rattle.files.specs.declared.Fault.TheVariants.{OutOfMemory};
+    ghost use Rattle.status.specs.declared.Fault.TheVariants.{File};
+
+    ghost from_gives = { λ _ told. told ≡ File OutOfMemory };
+
     fn from(e: AllocFailed<T>) -> Fault {
         Fault::File(files::Fault::from(e))
     }
@@ -123,7 +154,9 @@ fn said_line(alloc: Global, said: &[u8]) -> io::Result<Vec<u8>> {
 }
 
 // Says what could be put into words. Where standard error takes nothing, there is nobody to tell.
-fn say(rt: &HostRuntime, lines: io::Result<Vec<u8>>) -> Status {
+fn say(rt: &HostRuntime, lines: io::Result<Vec<u8>>) -> Status
+    ensures { result ≡ Status.Failed }
+{
     let _ = match lines {
         Ok(lines) => rt.stderr().write_all(lines.as_slice()),
         Err(_) => rt.stderr().write_all(b"chz: out of memory\n"),
@@ -131,7 +164,9 @@ fn say(rt: &HostRuntime, lines: io::Result<Vec<u8>>) -> Status {
     Status::Failed
 }
 
-fn tell_file(rt: &HostRuntime, fault: &files::Fault) -> Status {
+fn tell_file(rt: &HostRuntime, fault: &files::Fault) -> Status
+    ensures { EndsWith (Fault.File fault.now) result }
+{
     match fault {
         files::Fault::Closed => Status::Closed,
         _ => say(rt, fault.line(rt.alloc())),
@@ -146,4 +181,22 @@ pub fn tell<W: io::Write, D: Display + Drop>(
 ) -> Result<(), files::Fault> {
     let said = said.to_string(rt.alloc())?;
     files::write_output(rt.alloc(), to, said.as_bytes())
+}
+
+#[cfg(test)]
+mod tests {
+    use super::*;
+    use std::test::Fail;
+
+    // P4 of the paper: 6, bit 71.
+    const TAIL: &[u8] =
+        b"refused: 6 TAIL at bit 71\nOnly zero bits up to the byte may follow the last condition, and more follows here: look at byte 8, bit 7 (both from 0, the top bit first).\n";
+
+    #[test]
+    fn tells_a_refusal(rt: HostRuntime) -> Result<(), Fail> {
+        let mut told = Vec::new(rt.alloc());
+        tell(&rt, &mut told, Explained(Refusal::Tail(71)))?;
+        assert_eq!(rt; told.as_slice(), TAIL);
+        Ok(())
+    }
 }

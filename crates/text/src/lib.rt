@@ -2,12 +2,17 @@
 // its noun.
 #![tactic(auto)]
 
+ghost use Rattle.std.specs.Prelude.{◌≡◌, ◌++◌, map, OnOk, Some};
+ghost use Rattle.text.specs.Text.{shown, bits_text, count_text};
+
 use std::alloc::AllocError;
 use std::fmt;
 
 // Adds a name that came from outside, as bytes, since it need not be text. A byte that a terminal takes for a command is
 // shown as a question mark.
-pub fn push_name(out: &mut Vec<u8>, name: &[u8]) -> Result<(), AllocError> {
+pub fn push_name(out: &mut Vec<u8>, name: &[u8]) -> Result<(), AllocError>
+    ensures { OnOk result (out.new.items ≡ out.old.items ++ map shown name.now) }
+{
     out.extend(
         name.iter()
             .map(|b| if b.is_ascii_control() { b'?' } else { *b }),
@@ -22,6 +27,8 @@ pub struct Bits {
 }
 
 impl fmt::Display for Bits {
+    ghost output = { λ b. Some (bits_text b.word b.count) };
+
     fn fmt<W: fmt::Write>(&self, f: &mut fmt::Formatter<W>) -> fmt::Result {
         let mut rest = self.word;
         for _ in 0..self.count {
@@ -41,8 +48,34 @@ pub struct Count {
 }
 
 impl fmt::Display for Count {
+    ghost output = { λ c. Some (count_text c.number c.noun.now) };
+
     fn fmt<W: fmt::Write>(&self, f: &mut fmt::Formatter<W>) -> fmt::Result {
         let plural = if self.number == 1 { "" } else { "s" };
         write!(f, "{} {}{plural}", self.number, self.noun)
+    }
+}
+
+#[cfg(test)]
+mod tests {
+    use super::*;
+    use std::test::Fail;
+
+    #[test]
+    fn shows_a_name(rt: HostRuntime) -> Result<(), Fail> {
+        let mut out = Vec::new(rt.alloc());
+        out.push(b'<')?;
+        push_name(&mut out, b"a\x1b\x7f\xff.sheet")?;
+        assert_eq!(rt; out.as_slice(), b"<a??\xff.sheet".as_slice());
+        Ok(())
+    }
+
+    // What no clause says: bits in a width stand at its left.
+    #[test]
+    fn shows_bits_in_a_width(rt: HostRuntime) -> Result<(), Fail> {
+        let bits = Bits { word: 6, count: 4 };
+        let shown = format!(in rt.alloc(); "{bits}|{bits:6}|{bits:2}|")?;
+        assert_eq!(rt; shown.as_str(), "0110|0110  |0110|");
+        Ok(())
     }
 }

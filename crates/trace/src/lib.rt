@@ -3,6 +3,10 @@
 // at the byte that shows it.
 #![tactic(auto)]
 
+ghost use Rattle.std.specs.Prelude.{◌≡◌, ◌≤◌, min, None, Some, false, true, IfErr, IfOk, IfSome, IsNone, MatchResult, OnOk};
+ghost use Rattle.trace.specs.Line.{IsLineOf, is_begun, line_number, lines_after};
+ghost use Rattle.trace.specs.Shown.{bad_text, span_text};
+
 use std::error::Error;
 use std::fmt;
 use text::Count;
@@ -15,12 +19,16 @@ pub struct Span {
 }
 
 impl Span {
-    pub fn exactly(n: u32) -> Self {
+    pub fn exactly(n: u32) -> Self
+        ensures { result ≡ record { least = n; most = n } }
+    {
         Span { least: n, most: n }
     }
 }
 
 impl fmt::Display for Span {
+    ghost output = { λ s. Some (span_text s) };
+
     fn fmt<W: fmt::Write>(&self, f: &mut fmt::Formatter<W>) -> fmt::Result {
         if self.least != self.most {
             write!(f, "{} to ", self.least)?;
@@ -64,6 +72,8 @@ pub struct BadLine {
 }
 
 impl fmt::Display for BadLine {
+    ghost output = { λ bad. Some (bad_text bad) };
+
     fn fmt<W: fmt::Write>(&self, f: &mut fmt::Formatter<W>) -> fmt::Result {
         let number = self.number;
         let span = self.span;
@@ -119,7 +129,9 @@ fn with_digit(ms: u32, b: u8) -> Result<u32, Fault> {
 }
 
 impl Line {
-    fn new() -> Self {
+    fn new() -> Self
+        ensures { result.last ≡ None }
+    {
         Line {
             phase: Phase::Start,
             inputs: 0,
@@ -202,7 +214,11 @@ pub struct Trace {
 }
 
 impl Trace {
-    pub fn new(span: Span) -> Self {
+    pub fn new(span: Span) -> Self
+        ensures span { result.span ≡ span }
+        ensures first { result.lines ≡ 0 }
+        ensures begun { is_begun result ≡ false }
+    {
         Trace {
             span,
             lines: 0,
@@ -210,7 +226,9 @@ impl Trace {
         }
     }
 
-    fn bad(&self, fault: Fault) -> BadLine {
+    fn bad(&self, fault: Fault) -> BadLine
+        ensures { result ≡ record { number = line_number self.now; fault = fault; span = self.now.span } }
+    {
         BadLine {
             number: self.lines.saturating_add(1),
             fault,
@@ -219,7 +237,12 @@ impl Trace {
     }
 
     // The next byte. A line feed gives the scan of its line, if it has one.
-    pub fn take(&mut self, b: u8) -> Result<Option<Entry>, BadLine> {
+    pub fn take(&mut self, b: u8) -> Result<Option<Entry>, BadLine>
+        ensures refused { IfErr result (λ bad. IsLineOf self.old bad) }
+        ensures within { IfOk result (λ given. IfSome given (λ _. b ≡ 10)) }
+        ensures lines { OnOk result (self.new.lines ≡ lines_after self.old b) }
+        ensures span { self.new.span ≡ self.old.span }
+    {
         if b != b'\n' {
             self.line
                 .take(b, self.span)
@@ -233,7 +256,11 @@ impl Trace {
     }
 
     // The trace's end. A line that was begun lacks its line end, and what is missing nobody knows.
-    pub fn end(&self) -> Result<(), BadLine> {
+    pub fn end(&self) -> Result<(), BadLine>
+        ensures { MatchResult result (λ _. is_begun self.now ≡ false)
+            (λ bad. (is_begun self.now ≡ true)
+            × (bad ≡ record { number = line_number self.now; fault = Fault.Cut; span = self.now.span })) }
+    {
         match self.line.last {
             None => Ok(()),
             Some(_) => Err(self.bad(Fault::Cut)),

@@ -1,0 +1,2 @@
+-- What is said of the words after a command.
+pub mod Given

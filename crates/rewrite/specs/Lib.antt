@@ -1,0 +1,2 @@
+-- What a command writes.
+pub mod Code

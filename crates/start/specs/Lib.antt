@@ -1,0 +1,2 @@
+-- What is said of a run.
+pub mod Run

@@ -1,0 +1,2 @@
+-- What a command ends with.
+pub mod Ending

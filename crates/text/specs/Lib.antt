@@ -1,0 +1,2 @@
+-- What text is shown as.
+pub mod Text
