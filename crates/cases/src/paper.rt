@@ -55,6 +55,7 @@ const SCANS: [(&str, Option<(u8, u32)>, &[Turn]); 5] = [
     ("in state 0 011/50", Some((0, 7)), &[Turn(6, 50, 0, 57)]),
 ];
 
+// By number and place, as the paper writes its cases.
 fn is(verdict: Checked, number: u32, place: usize) -> bool {
     answer::number_of(verdict) == number && answer::place_of(verdict) == place
 }
@@ -105,6 +106,7 @@ struct Code<'a> {
     record: Record,
 }
 
+// The flag of a state. It has its like in `start`, which is the program's, and these cases stand on the library alone.
 fn flag_of(state: u8) -> u32 {
     if state < 32 { 1 << state } else { 0 }
 }

@@ -108,7 +108,8 @@ enum Phase {
     Comment(Option<u32>),
 }
 
-// A line as far as it was read: its phase, its input bits, and its last byte, if it has one.
+// A line as far as it was read: its phase, its input bits, and its last byte, if it has one. How many bits it may have is
+// the trace's, and lent to each step: a line that held it would be given it anew with each line.
 #[derive(Clone, Copy, Debug, PartialEq, Eq)]
 struct Line {
     phase: Phase,
