@@ -1,6 +1,8 @@
 // What a run ended with, told: a bad line, code and reference that differ, a file at fault.
 #![tactic(auto)]
 
+ghost use Rattle.std.specs.Prelude.{◌≡◌, IfOk, MatchResult, Ok};
+
 use start::Difference;
 use status::{Fault, Status};
 use std::alloc::Global;
@@ -17,7 +19,9 @@ fn bad_line(alloc: Global, name: &[u8], line: BadLine) -> io::Result<Vec<u8>> {
 
 // That the translated code differs is proved impossible: whoever reads that has a broken machine or a broken build.
 // Code that was given may differ: it does not do what the sheet says.
-fn differs(rt: &HostRuntime, difference: Difference) -> Result<Status, Fault> {
+fn differs(rt: &HostRuntime, difference: Difference) -> Result<Status, Fault>
+    ensures { IfOk result (λ status. status ≡ Status.Refused) }
+{
     if difference.is_of_given() {
         status::tell(
             rt,
@@ -35,7 +39,10 @@ pub fn status_of(
     rt: &HostRuntime,
     name: &[u8],
     played: Result<(), play::Fault>,
-) -> Result<Status, Fault> {
+) -> Result<Status, Fault>
+    ensures { MatchResult played (λ _. result ≡ Ok Status.Accepted)
+        (λ _. IfOk result (λ status. status ≡ Status.Refused)) }
+{
     let alloc = rt.alloc();
     match played {
         Ok(()) => Ok(Status::Accepted),

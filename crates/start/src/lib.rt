@@ -2,7 +2,8 @@
 // with a state and a clock that were asked for, and each scan holds the two records against one another.
 #![tactic(auto)]
 
-ghost use Rattle.std.specs.Prelude.{◌≡◌, ◌^◌, ◌<◌, ◌↔◌, None, Some, IfErr, IfOk, IfSome, IsOk, IsSome, IsTrue, MatchOption, OnOk, false};
+ghost use Rattle.std.specs.Prelude.{◌≡◌, ◌^◌, ◌<◌, ◌↔◌, None, Some, false};
+ghost use Rattle.std.specs.Prelude.{IfErr, IfOk, IfSome, IsOk, IsSome, IsTrue, MatchOption, OnOk};
 ghost use Rattle.machine.specs.Run.{record_with};
 ghost use Rattle.scan.specs.Scan.{cold_scan, scan_sheet, state_with};
 ghost use Rattle.translate.specs.Writing.{cold_run};
@@ -130,11 +131,16 @@ impl<'a> Run<'a> {
         start: Option<Start>,
     ) -> Result<Self, Refusal>
         ensures cold { start ≡ None → IsOk result }
-        ensures refused { IfSome start (λ s. IfErr (scan_sheet sheet.now (state_with s.state 0 s.clock) 0 0).verdict (λ why. result ≡ Err why)) }
+        ensures refused { IfSome start (λ s. IfErr
+            (scan_sheet sheet.now (state_with s.state 0 s.clock) 0 0).verdict
+            (λ why. result ≡ Err why)) }
         ensures code { IfOk result (λ run. run.code.now ≡ code.now) }
-        ensures reference { IfOk result (λ run. MatchOption run.reference ⊥ (λ r. (r.sheet.now ≡ sheet.now) × (r.source ≡ source))) }
+        ensures reference { IfOk result (λ run. MatchOption run.reference ⊥
+            (λ r. (r.sheet.now ≡ sheet.now) × (r.source ≡ source))) }
         ensures begun { IfOk result (λ run. (run.scans ≡ 0) × (run.time ≡ 0)) }
-        ensures from_cold { start ≡ None → IfOk result (λ run. (run.record ≡ (cold_run sheet.now).«record») × IfSome run.reference (λ r. r.state ≡ (cold_scan sheet.now).«record»)) }
+        ensures from_cold { start ≡ None → IfOk result
+            (λ run. (run.record ≡ (cold_run sheet.now).«record»)
+            × IfSome run.reference (λ r. r.state ≡ (cold_scan sheet.now).«record»)) }
     {
         let Decoded { header, rows, .. } = read(sheet);
         let (record, state) = match start {
@@ -177,7 +183,8 @@ impl<'a> Run<'a> {
         ensures code { result.code.now ≡ code.now }
         ensures alone { result.reference ≡ None }
         ensures begun { (result.scans ≡ 0) × (result.time ≡ 0) }
-        ensures record_of { MatchOption start (result.«record» ≡ record_with 1 0 0) (λ s. s.state < 32 → result.«record» ≡ record_with (2 ^ s.state) 0 s.clock) }
+        ensures record_of { MatchOption start (result.«record» ≡ record_with 1 0 0)
+            (λ s. s.state < 32 → result.«record» ≡ record_with (2 ^ s.state) 0 s.clock) }
     {
         let start = start.unwrap_or_default();
         Run {
@@ -231,7 +238,8 @@ impl<'a> Run<'a> {
         ensures ran { self.new.«record» ≡ (ran_of self.old entry).«record» }
         ensures agreed { OnOk result (IfSome self.new.reference (λ r. Agrees self.new.«record» r.state)) }
         ensures accepted { OnOk result ((ran_of self.old entry).verdict ≡ Ok tt) }
-        ensures stayed { IfOk result (λ change. (change ≡ Change.Stayed) ↔ (self.old.«record».flags ≡ self.new.«record».flags)) }
+        ensures stayed { IfOk result
+            (λ change. (change ≡ Change.Stayed) ↔ (self.old.«record».flags ≡ self.new.«record».flags)) }
         ensures differs { IfErr result (λ d. (d.scan ≡ self.new.scans) × (d.«record» ≡ self.new.«record»)) }
     {
         let before = self.record.flags;

@@ -2,6 +2,9 @@
 // 20 are the most that a sum of times has, and inputs and outputs have as many columns as the sheet has of them.
 #![tactic(auto)]
 
+ghost use Rattle.std.specs.Prelude.{◌≡◌, Some};
+ghost use Rattle.table.specs.Shown.{change_text, flags_text, state_of};
+
 use machine::Record;
 use std::fmt;
 use text::Bits;
@@ -37,7 +40,9 @@ impl fmt::Display for Columns {
 }
 
 // The number of the one flag that is set, if it is one alone.
-fn state_of(flags: u32) -> Option<u32> {
+fn state_of(flags: u32) -> Option<u32>
+    ensures { result ≡ state_of flags }
+{
     flags.is_power_of_two().then_some(flags.trailing_zeros())
 }
 
@@ -46,6 +51,8 @@ fn state_of(flags: u32) -> Option<u32> {
 pub struct Flags(pub u32);
 
 impl fmt::Display for Flags {
+    ghost output = { flags_text };
+
     fn fmt<W: fmt::Write>(&self, f: &mut fmt::Formatter<W>) -> fmt::Result {
         match state_of(self.0) {
             Some(state) => write!(f, "state {state}"),
@@ -64,6 +71,8 @@ pub enum Change {
 }
 
 impl fmt::Display for Change {
+    ghost output = { λ change. Some (change_text change) };
+
     fn fmt<W: fmt::Write>(&self, f: &mut fmt::Formatter<W>) -> fmt::Result {
         f.write_str(match self {
             Change::ColdStart => "cold start",

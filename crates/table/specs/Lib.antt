@@ -1,0 +1,2 @@
+-- What is shown in the columns of a run.
+pub mod Shown
