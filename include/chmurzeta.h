@@ -37,8 +37,8 @@
  * handler may call while a task is inside a call, as long as they do not
  * share the memory that they write.
  *
- * Stack: at most 8192 bytes for any one call, its callees included. 3,808 were measured at the most, instruction by
- * instruction, so that bytes which are reserved and never written count too; and 5,512 where the first call of a
+ * Stack: at most 8192 bytes for any one call, its callees included. 2,912 were measured at the most, instruction by
+ * instruction, so that bytes which are reserved and never written count too; and 5,576 where the first call of a
  * program binds memset or memcpy late, on the stack of that call. The loader's share of that differs by machine.
  *
  * Registers: the calls use xmm registers besides the general ones, as any C code for x86-64 may. An interrupt handler
