@@ -40,8 +40,9 @@ def found(all_files):
     """Point by point: what is counted, and where."""
     out = collections.OrderedDict()
 
-    def lines(title, pattern, unless=None):
-        out[title] = [f"{name}: {line.strip()}" for name, text in all_files for line in text.split("\n") if re.search(pattern, line) and not (unless and re.search(unless, line))]
+    def lines(title, pattern):
+        hits = [(name, line.strip()) for name, text in all_files for line in text.split("\n") if re.search(pattern, line)]
+        out[title] = [f"{name}: {line}" for name, line in hits]
 
     enums, flags = [], []
     for name, text in all_files:
@@ -55,7 +56,8 @@ def found(all_files):
     out["1a enums of two cases, one of them with a value"] = enums
     out["1b structs of a flag or verdict with values beside it"] = flags
     lines("1c constants that number kinds", r"^\s*(pub )?const [A-Z_0-9]+: u(8|16|32|64|size) =")
-    lines("1d matches and tests of a code, a form, a tag or a status by its number", r"^\s*\d+ => |\b(op|tag|form|kind|phase|how|source|fault|status)\)? (==|!=|<=|<) (\d+|[A-Z][A-Z_]+\b|\w+::[A-Z_]+\b)")
+    lines("1d matches and tests of a code, a form, a tag or a status by its number",
+          r"^\s*\d+ => |\b(op|tag|form|kind|phase|how|source|fault|status)\)? (==|!=|<=|<) (\d+|[A-Z][A-Z_]+\b|\w+::[A-Z_]+\b)")
     lines("1e words, states or numbers that are 0 or 32 for none", r"\b(o|r|p|s)\.\w+ (==|!=) 0|!= 0\) \||(== 0\) &)|state < 32|32 <= s")
     lines("3a loops that count an index by hand (while)", r"^\s*while ")
     lines("3b for loops over a range of indices", r"^\s*for \w+ in .*\.\.")
