@@ -92,3 +92,11 @@ pub fn set_bit(w: u32, i: u32) -> u32
 {
     put_bit(w, i, true)
 }
+
+// The word with bit i made 0.
+pub fn clear_bit(w: u32, i: u32) -> u32
+    requires { i < 32 }
+    ensures { result ≡ put_bit w i false }
+{
+    put_bit(w, i, false)
+}
