@@ -39,7 +39,7 @@ pub struct Arrow {
 // A sheet decoded once, in a place that the caller lends: its header, its states' outputs as words, its arrows packed.
 // That the header's counts fit stands at the methods: beside a ghost field the arrays could not be lent. The sheet's bytes
 // are not in it, since it is lent before they are read.
-#[derive(Drop)]
+#[derive(Clone, Copy)]
 pub struct Decoded {
     pub header: Header,
     pub rows: [u16; 32],
@@ -289,12 +289,14 @@ pub fn read_sheet(s: &[u8], decoded: &mut Decoded) -> Result<Cursor, Refusal>
     ensures { Answers s.now (read_sheet s.now) result decoded.new }
 {
     let (header, c1) = read_header(s)?;
-    decoded.header = header;
     let rows = &mut decoded.rows[..header.states as usize];
     let c2 = read_rows(s, c1, header.outputs as usize, rows)?;
     let arrows = &mut decoded.arrows[..header.transitions as usize];
     let c3 = read_transitions(s, c2, header, arrows)?;
     if ends_here(s, c3) {
+        // Kept last, so that whoever goes on has at hand how few arrows there are: the compiler then compares eight of
+        // their keys at a time.
+        decoded.header = header;
         return Ok(c3);
     }
     Err(Refusal::Tail(c3.at))

@@ -3,8 +3,8 @@ use mathlib.Core.Path.{refl, sym, ◌∙◌}
 use Prim.Native.Nat.{ℕ, ◌≤◌, ◌<◌}
 use mathlib.Core.List.{List}
 use native.Mathlib.Omega.{arith}
-use lib.ListN.{length, get_or-append}
-use Rattle.std.proofs.lemmas.List.{length-take-le}
+use lib.ListN.{length, length-append, get_or-append}
+use Rattle.std.proofs.lemmas.List.{length-drop, length-take-le}
 use Rattle.std.proofs.lemmas.Result.{err_from_is_err_and}
 use Rattle.std.specs.Prelude.{Ok}
 use Rattle.bits.specs.Read.{upto}
@@ -114,6 +114,7 @@ returns-then-ends_here c =
         row = λ i l.
             let low : i < length ws = omega arith in
             get_or-append ws _ 0 i low ∙ rows.2 i low;
+        long = length-append ts _ ∙ omega (arith, length-drop h.transitions a.decoded.now.arrows);
         arrow = λ i l.
             let low : i < length ts = omega arith in
             rw (get_or-append ts _ 0 i low) (arrows.2 i low);

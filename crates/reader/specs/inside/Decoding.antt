@@ -82,6 +82,7 @@ pub record Copy (s : List ℕ) (d : Decoded) (a : Sheet) : Type 0 where
   pub outputs : d.header.outputs ≡ a.outputs
   pub transitions : d.header.transitions ≡ count a
   pub row : (i : ℕ) → i < a.states → get_or d.rows i 0 ≡ word_of (row_of a i)
+  pub long : length d.arrows ≡ 128
   pub arrow : (i : ℕ) → i < count a → Holds s a.inputs (arrow_at d.arrows i) (transition_of a i)
 
 -- the code's answer is that of the reader: the cursor after the last condition, with the copy; or the refusal
