@@ -89,7 +89,9 @@ fn opened(op: Op, d: usize) -> usize
 
 // 16; or else whether there is a 17. The targets of jumps are marked: jumps go forward, so that at each word all jumps to
 // it have been met. That the code is no longer than `end_fault` lets pass is required here and by the passes below: a type
-// that says it would be taken apart at each use of the code.
+// that says it would be taken apart at each use of the code. Not inlined, so that its marks are off the stack when
+// `check_landings` has its own.
+#[inline(never)]
 fn one_pass(code: &[u8]) -> Result<bool, Refusal>
     requires { length code.now ≤ 32768 }
     ensures { PassTells code.now result }
