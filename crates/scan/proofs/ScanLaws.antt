@@ -35,7 +35,7 @@ cold-refused s why e = with-refused s why (refused zeros) _ e
 
 module _ (s : List ℕ) (d : Decoded) (g : Good s d) where
   -- an accepted sheet, and a state that it has or has not
-  scan_accepted : (q : State) (word elapsed : ℕ) → q.state < g.sheet.states → scan_sheet s q word elapsed ≡ accepted (scan_of g.sheet q word elapsed)
+  pub scan_accepted : (q : State) (word elapsed : ℕ) → q.state < g.sheet.states → scan_sheet s q word elapsed ≡ accepted (scan_of g.sheet q word elapsed)
   unfolding scan_sheet
   scan_accepted q word elapsed l =
       with-accepted s g.sheet g.end (refused q) _ g.read g.judged ∙ rw (lt-ltb q.state g.sheet.states l)
@@ -45,7 +45,7 @@ module _ (s : List ℕ) (d : Decoded) (g : Good s d) where
   scan-no-state q word elapsed l =
       with-accepted s g.sheet g.end (refused q) _ g.read g.judged ∙ rw (le-ltb q.state g.sheet.states l)
 
-  cold-accepted : cold_scan s ≡ accepted (cold_of g.sheet)
+  pub cold-accepted : cold_scan s ≡ accepted (cold_of g.sheet)
   unfolding cold_scan
   cold-accepted = with-accepted s g.sheet g.end (refused zeros) _ g.read g.judged
 

@@ -75,7 +75,7 @@ module _ (s rows arrows : List ℕ) (a : Sheet) (k : Held s rows arrows a) where
   activity-same =
       rw k.states (first-same (activity_row rows) (wrong_activity a) a.states λ n l. rw (k.row n l, bit-first (row_of a n)))
 
-  judge-same : judge_arrows arrows rows a.states ≡ judge a
+  pub judge-same : judge_arrows arrows rows a.states ≡ judge a
   unfolding judge_arrows judge
   judge-same =
       rw (
