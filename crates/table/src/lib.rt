@@ -112,7 +112,8 @@ impl fmt::Display for Row {
             count: self.columns.outputs as usize,
         };
         let width = self.columns.output_width();
-        write!(f, "{outputs:width$}  {:>10}  ", self.record.clock)?;
+        write!(f, "{outputs:width$}  ")?;
+        write!(f, "{:>10}  ", self.record.clock)?;
         write!(f, "{}", self.change)?;
         match state {
             Some(_) => Ok(()),

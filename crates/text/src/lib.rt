@@ -31,12 +31,54 @@ impl fmt::Display for Bits {
 
     fn fmt<W: fmt::Write>(&self, f: &mut fmt::Formatter<W>) -> fmt::Result {
         let mut rest = self.word;
-        for _ in 0..self.count {
+        for _ in 0..self.count / 4 {
+            f.write_str(four(rest))?;
+            rest /= 16;
+        }
+        for _ in 0..self.count % 4 {
             f.write_str(if rest % 2 == 1 { "1" } else { "0" })?;
             rest /= 2;
         }
         let blanks = f.width().unwrap_or(0).saturating_sub(self.count);
-        write!(f, "{:blanks$}", "")
+        if 0 < blanks {
+            return put_blanks(f, blanks);
+        }
+        Ok(())
+    }
+}
+
+// Blanks, by fours too: a `write!` with a width costs more than a few of them.
+fn put_blanks<W: fmt::Write>(f: &mut fmt::Formatter<W>, count: usize) -> fmt::Result {
+    for _ in 0..count / 4 {
+        f.write_str("    ")?;
+    }
+    for _ in 0..count % 4 {
+        f.write_str(" ")?;
+    }
+    Ok(())
+}
+
+// The first four bits in one text. A call for each bit would be most of what it costs to show a word.
+fn four(word: u32) -> &'static str
+    ensures { result.now ≡ bits_text word 4 }
+{
+    match word % 16 {
+        0 => "0000",
+        1 => "1000",
+        2 => "0100",
+        3 => "1100",
+        4 => "0010",
+        5 => "1010",
+        6 => "0110",
+        7 => "1110",
+        8 => "0001",
+        9 => "1001",
+        10 => "0101",
+        11 => "1101",
+        12 => "0011",
+        13 => "1011",
+        14 => "0111",
+        _ => "1111",
     }
 }
 
