@@ -1,12 +1,14 @@
 // The command line: a thin program over the proved library.
 #![tactic(auto)]
 
+ghost use Rattle.std.specs.Prelude.{◌≡◌, ◌<◌, ◌⊎◌, IsTrue};
+
 mod demo;
 mod help;
 
-use files::Word;
-use options::Options;
+use options::{Files, Given, Options};
 use status::{Fault, Status};
+use std::env::Env;
 use std::process::ExitCode;
 
 #[derive(Clone, Copy, Debug, PartialEq, Eq)]
@@ -33,23 +35,23 @@ fn command_of(word: &[u8]) -> Option<Command> {
 
 fn check(rt: &HostRuntime, o: &Options) -> Result<Status, Fault> {
     let is_run = o.sheet.is_some() || o.state.is_some() || o.clock.is_some();
-    match (o.code, o.files.as_slice()) {
-        (Some(code), []) if !is_run => report::check_code_command(rt, code),
-        (None, [sheet]) if !is_run => report::check_command(rt, sheet),
+    match (o.code, o.files) {
+        (Some(code), Files::None) if !is_run => report::check_code_command(rt, code),
+        (None, Files::One(sheet)) if !is_run => report::check_command(rt, sheet),
         _ => Err(Fault::Usage("check takes one file: chz check SHEET, or chz check --code CODE")),
     }
 }
 
 fn translate(rt: &HostRuntime, o: &Options) -> Result<Status, Fault> {
-    match o.files.as_slice() {
-        [sheet, code] if o.is_plain() => rewrite::translate_command(rt, sheet, code),
+    match o.files {
+        Files::Two(sheet, code) if o.is_plain() => rewrite::translate_command(rt, sheet, code),
         _ => Err(Fault::Usage("translate takes two files: chz translate SHEET CODE")),
     }
 }
 
 // That a command is given nothing.
 fn alone(o: &Options, usage: &'static str) -> Result<(), Fault> {
-    if o.is_plain() && o.files.is_empty() {
+    if o.is_plain() && matches!(o.files, Files::None) {
         return Ok(());
     }
     Err(Fault::Usage(usage))
@@ -75,38 +77,52 @@ fn run_command(rt: &HostRuntime, command: Command, o: &Options) -> Result<Status
     }
 }
 
-// Runs the command that the first word is, whose options and files are the other words.
-fn run_words(rt: &HostRuntime, words: &[Word]) -> Result<Status, Fault> {
-    let Some((first, rest)) = words.split_first() else {
+// Runs the command that the word of this number is, whose options and files are the words after it.
+fn run_from(rt: &HostRuntime, number: usize) -> Result<Status, Fault>
+    requires { number < 3 }
+{
+    let Some(word) = files::word_at(rt, number)? else {
         return Ok(help::no_command(rt));
     };
-    let Some(command) = command_of(first.bytes()) else {
-        return Err(Fault::of_word(rt.alloc(), "there is no command", first));
+    let Some(command) = command_of(word.bytes()) else {
+        return Err(Fault::of_word(rt.alloc(), "there is no command", &word));
     };
-    let options = Options::of(rt.alloc(), rest)?;
-    run_command(rt, command, &options)
+    let given = Given::of(rt, number + 1)?;
+    run_command(rt, command, &given.options())
 }
 
-fn ended(rt: &HostRuntime, words: &[Word]) -> Status {
-    run_words(rt, words).unwrap_or_else(|fault| fault.tell(rt))
+fn ended(rt: &HostRuntime, number: usize) -> Status
+    requires { number < 3 }
+{
+    run_from(rt, number).unwrap_or_else(|fault| fault.tell(rt))
 }
 
-// After the word --status, which the launcher gives, the program ends with its status; without it with 0 whatever it says,
-// but where nobody reads it.
-fn status_of(rt: &HostRuntime, words: &[Word]) -> Status {
-    match words.split_first() {
-        Some((first, rest)) if first.bytes() == b"--status".as_slice() => ended(rt, rest),
-        _ => match ended(rt, words) {
-            Status::Closed => Status::Closed,
-            _ => Status::Accepted,
-        },
+// Whether the first word is --status. No memory is asked for that.
+fn asks_status(rt: &HostRuntime) -> bool {
+    let mut room = [0u8; 16];
+    match rt.arg(1, &mut room) {
+        Ok(n) => &room[..n] == b"--status".as_slice(),
+        Err(_) => false,
     }
 }
 
+// What the program ends with: its status where it was asked for it, else 0 whatever it says, but where nobody reads it.
+fn shown(asked: bool, status: Status) -> Status
+    ensures asked { IsTrue asked → result ≡ status }
+    ensures unasked { ¬ IsTrue asked → (result ≡ Status.Accepted) ⊎ (result ≡ Status.Closed) }
+{
+    if asked {
+        return status;
+    }
+    match status {
+        Status::Closed => Status::Closed,
+        _ => Status::Accepted,
+    }
+}
+
+// The word --status is the launcher's, and the command is the word after it.
 fn main(rt: HostRuntime) -> ExitCode {
-    let status = match files::words(&rt) {
-        Ok(words) => status_of(&rt, words.as_slice()),
-        Err(e) => Fault::from(e).tell(&rt),
-    };
-    ExitCode::from(status)
+    let asked = asks_status(&rt);
+    let status = ended(&rt, if asked { 2 } else { 1 });
+    ExitCode::from(shown(asked, status))
 }

@@ -42,8 +42,9 @@ impl Word {
     }
 }
 
-// The word of this number, if there is one. The list that std makes is none where a word is not UTF-8.
-fn word_at(rt: &HostRuntime, number: usize) -> Result<Option<Word>, AllocError> {
+// The word of this number, if there is one; the first after the program's own name is 1. Words are taken one by one, so
+// that the program holds those alone that count. The list that std makes is none where a word is not UTF-8.
+pub fn word_at(rt: &HostRuntime, number: usize) -> Result<Option<Word>, AllocError> {
     let mut room = [0u8; 4096];
     let held = match rt.arg(number, &mut room) {
         Ok(n) => Some(room[..n].to_vec(rt.alloc())?),
@@ -53,30 +54,18 @@ fn word_at(rt: &HostRuntime, number: usize) -> Result<Option<Word>, AllocError> 
     Ok(Some(Word { held }))
 }
 
-// All words after the program's own name.
-pub fn words(rt: &HostRuntime) -> Result<Vec<Word>, AllocError> {
-    let mut all = Vec::new(rt.alloc());
-    for number in 1..usize::MAX {
-        match word_at(rt, number)? {
-            Some(word) => all.push(word)?,
-            None => break,
-        }
-    }
-    Ok(all)
-}
-
 #[cfg(test)]
 mod tests {
     use super::*;
     use std::test::Fail;
 
-    // However many words the test is given, the one after the last that is found is none.
+    // However many words the test is given, none has this number; the program's own name has number 0.
     #[test]
-    fn finds_all_words(rt: HostRuntime) -> Result<(), Fail> {
-        let all = words(&rt)?;
-        let mut room = [0u8; 4096];
-        let next = rt.arg(all.len().saturating_add(1), &mut room);
-        assert!(rt; matches!(next, Err(FillError::NotPresent)));
+    fn finds_words(rt: HostRuntime) -> Result<(), Fail> {
+        let own = word_at(&rt, 0)?;
+        assert!(rt; own.is_some());
+        let none = word_at(&rt, usize::MAX)?;
+        assert!(rt; none.is_none());
         Ok(())
     }
 }

@@ -20,8 +20,9 @@ pub fn read_some<R: io::Read>(from: &mut R, buf: &mut [u8]) -> io::Result<usize>
     Err(io::Error::from(ErrorKind::Interrupted))
 }
 
+// There is room for all from the first read on: what a read of some pipes has no room for is lost.
 fn read_to_end(rt: &HostRuntime, name: &[u8], most: u64) -> io::Result<Vec<u8>> {
-    let mut all = Vec::new(rt.alloc());
+    let mut all = Vec::with_capacity(rt.alloc(), most as usize)?;
     named::open_read(rt, name)?
         .take(most)
         .read_to_end(&mut all)?;

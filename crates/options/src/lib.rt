@@ -1,21 +1,41 @@
 // The words after a command: its options, each with a value, and its files.
 #![tactic(auto)]
 
-ghost use Rattle.std.specs.Prelude.{◌≡◌, ◌≤◌, [], IfOk, IfSome, IsTrue, ◌↔◌};
-ghost use Rattle.options.specs.Given.{IsOptionWord, IsPlain, NoOptionAmong};
+ghost use Rattle.std.specs.Prelude.{◌≡◌, ◌≤◌, [], IfOk, OnOk, IfSome, IsTrue, ◌↔◌};
+ghost use Rattle.files.specs.Name.{word_bytes};
+ghost use Rattle.options.specs.Given.{IsOptionWord, IsPlain, NoOptionAmong, names, few};
 
 use files::Word;
 use status::Fault;
 use std::alloc::Global;
 use std::str;
 
-#[derive(Drop)]
+// The files that are given, in order; no command takes more than two.
+#[derive(Clone, Copy)]
+pub enum Files<'a> {
+    None,
+    One(&'a Word),
+    Two(&'a Word, &'a Word),
+    More,
+}
+
+#[derive(Clone, Copy)]
 pub struct Options<'a> {
     pub code: Option<&'a Word>,
     pub sheet: Option<&'a Word>,
     pub state: Option<&'a Word>,
     pub clock: Option<&'a Word>,
-    pub files: Vec<&'a Word>,
+    pub files: Files<'a>,
+}
+
+// The words that options are made of, whatever else was given: each option's last value, and the first three files.
+#[derive(Drop)]
+pub struct Given {
+    code: Option<Word>,
+    sheet: Option<Word>,
+    state: Option<Word>,
+    clock: Option<Word>,
+    files: Vec<Word>,
 }
 
 // An option that takes a value.
@@ -48,12 +68,23 @@ fn kind_of(word: &[u8]) -> Kind
     }
 }
 
-impl<'a> Options<'a> {
-    fn none(alloc: Global) -> Options<'a>
-        ensures plain { IsPlain result }
-        ensures files { result.files.items ≡ [] }
+impl Named {
+    // The option's own word.
+    fn word(self) -> &'static [u8] {
+        match self {
+            Named::Code => b"--code",
+            Named::Sheet => b"--sheet",
+            Named::State => b"--state",
+            Named::Clock => b"--clock",
+        }
+    }
+}
+
+impl Given {
+    fn none(alloc: Global) -> Given
+        ensures { result.files.items ≡ [] }
     {
-        Options {
+        Given {
             code: None,
             sheet: None,
             state: None,
@@ -62,7 +93,7 @@ impl<'a> Options<'a> {
         }
     }
 
-    fn set(&mut self, named: Named, value: &'a Word)
+    fn set(&mut self, named: Named, value: Word)
         ensures { self.new.files ≡ self.old.files }
     {
         match named {
@@ -73,35 +104,71 @@ impl<'a> Options<'a> {
         }
     }
 
-    // All words after a command. An option that stands twice has the last value.
-    pub fn of(alloc: Global, words: &'a [Word]) -> Result<Options<'a>, Fault>
-        ensures { IfOk result (λ options. NoOptionAmong options.files.items) }
+    // One more file.
+    fn add(&mut self, file: Word) -> Result<(), Fault>
+        ensures { ¬ IsOptionWord (word_bytes file) → NoOptionAmong self.old.files.items → OnOk result (NoOptionAmong self.new.files.items) }
     {
-        let mut options = Options::none(alloc);
-        // The option whose value the next word is, with its own word.
+        if self.files.len() < 3 {
+            self.files.push(file)?;
+        }
+        Ok(())
+    }
+
+    // The words from this number on, up to one that is at fault. An option that stands twice has the last value.
+    pub fn of(rt: &HostRuntime, from: usize) -> Result<Given, Fault>
+        ensures { IfOk result (λ given. NoOptionAmong given.files.items) }
+    {
+        let alloc = rt.alloc();
+        let mut given = Given::none(alloc);
+        // The option whose value the next word is.
         let mut lacking = None;
-        for word in words {
+        for number in from..usize::MAX {
+            let Some(word) = files::word_at(rt, number)? else {
+                break;
+            };
             lacking = match (lacking, kind_of(word.bytes())) {
-                (Some((named, _)), _) => {
-                    options.set(named, word);
+                (Some(named), _) => {
+                    given.set(named, word);
                     None
                 }
-                (None, Kind::Option(named)) => Some((named, word)),
+                (None, Kind::Option(named)) => Some(named),
                 (None, Kind::Unknown) => {
-                    return Err(Fault::of_word(alloc, "there is no option", word));
+                    return Err(Fault::of_word(alloc, "there is no option", &word));
                 }
                 (None, Kind::File) => {
-                    options.files.push(word)?;
+                    given.add(word)?;
                     None
                 }
             };
         }
         match lacking {
-            Some((_, word)) => Err(Fault::of_word(alloc, "a value is missing after", word)),
-            None => Ok(options),
+            Some(named) => Err(Fault::Word {
+                what: "a value is missing after",
+                word: named.word().to_vec(alloc)?,
+            }),
+            None => Ok(given),
         }
     }
 
+    pub fn options(&self) -> Options<'_>
+        ensures { names result.files ≡ few self.now.files.items }
+    {
+        Options {
+            code: self.code.as_ref(),
+            sheet: self.sheet.as_ref(),
+            state: self.state.as_ref(),
+            clock: self.clock.as_ref(),
+            files: match self.files.as_slice() {
+                [] => Files::None,
+                [file] => Files::One(file),
+                [first, second] => Files::Two(first, second),
+                _ => Files::More,
+            },
+        }
+    }
+}
+
+impl Options<'_> {
     // Whether no option is given.
     pub fn is_plain(&self) -> bool
         ensures { IsTrue result ↔ IsPlain self.now }
@@ -139,14 +206,15 @@ mod tests {
     use super::*;
     use std::test::Fail;
 
-    // The words of a test are its runner's own, so no word is all that a test can give.
+    // No word has these numbers.
     #[test]
     fn takes_no_word(rt: HostRuntime) -> Result<(), Fail> {
-        let Ok(options) = Options::of(rt.alloc(), &[]) else {
+        let Ok(given) = Given::of(&rt, usize::MAX - 1) else {
             return Err(Fail::new("no word is refused"));
         };
+        let options = given.options();
         assert!(rt; options.is_plain());
-        assert_eq!(rt; options.files.len(), 0);
+        assert!(rt; matches!(options.files, Files::None));
         Ok(())
     }
 }

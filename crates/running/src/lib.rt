@@ -2,6 +2,7 @@
 #![tactic(auto)]
 
 use files::Word;
+use options::Files::{One, Two};
 use options::Options;
 use report::{CODE_BYTES, SHEET_BYTES, read_file};
 use start::{Run, Source, Start};
@@ -111,11 +112,11 @@ const USAGE: &str =
 
 // A sheet, code or both, and a trace.
 pub fn run_command(rt: &HostRuntime, options: &Options) -> Result<Status, Fault> {
-    match (options.sheet, options.code, options.files.as_slice()) {
-        (None, None, [sheet, trace]) => Request::new(rt, options, trace)?.run_sheet(sheet),
-        (Some(sheet), None, [trace]) => Request::new(rt, options, trace)?.run_sheet(sheet),
-        (None, Some(code), [trace]) => Request::new(rt, options, trace)?.run_code(code),
-        (Some(sheet), Some(code), [trace]) => Request::new(rt, options, trace)?.run_beside(
+    match (options.sheet, options.code, options.files) {
+        (None, None, Two(sheet, trace)) => Request::new(rt, options, trace)?.run_sheet(sheet),
+        (Some(sheet), None, One(trace)) => Request::new(rt, options, trace)?.run_sheet(sheet),
+        (None, Some(code), One(trace)) => Request::new(rt, options, trace)?.run_code(code),
+        (Some(sheet), Some(code), One(trace)) => Request::new(rt, options, trace)?.run_beside(
             sheet, code,
         ),
         _ => Err(Fault::Usage(USAGE)),

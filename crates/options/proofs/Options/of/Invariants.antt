@@ -1,5 +1,0 @@
-use Rattle.options.specs.Given.{NoOptionAmong}
-use Rattle.options.proofs.Options.of.Given as goal
-
-abbrev pub invariant-loop-word : goal.invariant-loop-word
-invariant-loop-word l = NoOptionAmong l.options.files.items
