@@ -9,9 +9,14 @@ use std::io::Read;
 // A file of cases is shorter.
 pub const ROOM: u64 = 307200;
 
-// The bytes of a file, up to a most, to its end or to a read that fails.
+// The bytes of a file, up to a most, to its end or to a read that fails. There is room for all from the first read on: what
+// a read of some pipes has no room for is lost, and no memory is told as that and not as answers that differ.
 pub fn load(rt: &HostRuntime, name: &str, most: u64) -> Vec<u8> {
     let mut all = Vec::new(rt.alloc());
+    if all.reserve(most as usize).is_err() {
+        let _ = eprintln!(rt; "{name}: out of memory");
+        return all;
+    }
     match files::open_read(rt, name.as_bytes()) {
         Ok(file) => {
             let _ = file.take(most).read_to_end(&mut all);
