@@ -37,9 +37,9 @@
  * handler may call while a task is inside a call, as long as they do not
  * share the memory that they write.
  *
- * Stack: at most 8192 bytes for any one call, its callees included. 2,912 were measured at the most, instruction by
- * instruction, so that bytes which are reserved and never written count too; and 5,576 where the first call of a
- * program binds memset or memcpy late, on the stack of that call. The loader's share of that differs by machine.
+ * Stack: at most 8192 bytes for any one call, its callees included. 3,200 were measured at the most, instruction by
+ * instruction, so that bytes which are reserved and never written count too. Where the first call of a program binds
+ * memset or memcpy late, on the stack of that call, it was 5,576; the loader's share of that differs by machine.
  *
  * Registers: the calls use xmm registers besides the general ones, as any C code for x86-64 may. An interrupt handler
  * that calls saves them first, and so does the switch of tasks.
@@ -97,7 +97,7 @@
  * HOW TO LINK
  *
  * The calls are in librecorder.a, a static library for x86-64 Linux. It needs
- * two functions, memcpy and memset, which any C library has; firmware without
+ * at most two functions, memcpy and memset, which any C library has; firmware without
  * one gives its own. There is nothing else to link:
  *
  *     cc -O2 -Iinclude firmware.c librecorder.a -o firmware
