@@ -10,12 +10,12 @@ use std::io::Read;
 pub const ROOM: u64 = 307200;
 
 // The bytes of a file, up to a most, to its end or to a read that fails. There is room for all from the first read on: what
-// a read of some pipes has no room for is lost, and no memory is told as that and not as answers that differ.
-pub fn load(rt: &HostRuntime, name: &str, most: u64) -> Vec<u8> {
+// a read of some pipes has no room for is lost. None where there is no memory, which is told.
+pub fn load(rt: &HostRuntime, name: &str, most: u64) -> Option<Vec<u8>> {
     let mut all = Vec::new(rt.alloc());
     if all.reserve(most as usize).is_err() {
         let _ = eprintln!(rt; "{name}: out of memory");
-        return all;
+        return None;
     }
     match files::open_read(rt, name.as_bytes()) {
         Ok(file) => {
@@ -25,7 +25,7 @@ pub fn load(rt: &HostRuntime, name: &str, most: u64) -> Vec<u8> {
             let _ = eprintln!(rt; "{name}: {}", Reason(&e));
         }
     }
-    all
+    Some(all)
 }
 
 // How many numbers there are, 0 among them.

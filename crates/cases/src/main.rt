@@ -10,11 +10,16 @@ mod tally;
 
 use say::Report;
 
+// Without memory for a file nothing is said of its answers.
 fn main(rt: HostRuntime) {
     let mut report = Report::new(&rt);
-    let sheet = file::load(&rt, "two-contact.sheet", 256);
+    let Some(sheet) = file::load(&rt, "two-contact.sheet", 256) else {
+        return;
+    };
     paper::judge_all(&mut report, sheet.as_slice());
-    let cases = file::load(&rt, "cases.bin", file::ROOM);
+    let Some(cases) = file::load(&rt, "cases.bin", file::ROOM) else {
+        return;
+    };
     file::judge_all(&mut report, cases.as_slice());
     report.total();
 }
