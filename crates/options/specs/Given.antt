@@ -1,5 +1,6 @@
 -- Which options are given, and which words are none.
-use Rattle.std.specs.Prelude.{◌≡◌, ◌<◌, ℕ, None, Some, IfSome, List, [], ◌∷◌, length, slice_index, All}
+use Rattle.std.specs.Prelude.{◌≡◌, ◌<◌, ℕ, None, Some, List, [], ◌∷◌, length, slice_index, All}
+use Rattle.std.specs.Borrow.{Bor}
 use Rattle.std.specs.declared.option.Option.{Option}
 use Rattle.files.specs.declared.Word.{Word}
 use Rattle.files.specs.Name.{word_bytes}
@@ -15,9 +16,13 @@ IsPlain o = (o.code ≡ None) × (o.sheet ≡ None) × (o.state ≡ None) × (o.
 abbrev pub IsOptionWord : List ℕ → Type 0
 IsOptionWord word = (1 < length word) × (slice_index word 0 ≡ 45)
 
--- No word of the list begins as an option.
-abbrev pub NoOptionAmong : List Word → Type 0
-NoOptionAmong words = All (λ word. ¬ IsOptionWord (word_bytes word)) words
+-- No word of the list begins as an option: of words that are held,
+abbrev pub NoOptionIn : List Word → Type 0
+NoOptionIn words = All (λ word. ¬ IsOptionWord (word_bytes word)) words
+
+-- and of words that are lent.
+abbrev pub NoOptionAmong : List (Bor Word) → Type 0
+NoOptionAmong words = All (λ word. ¬ IsOptionWord (word_bytes word.now)) words
 
 -- The files that are given, in order; none where there are more than any command takes.
 abbrev pub names : Files → Option (List Word)

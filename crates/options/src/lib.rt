@@ -1,9 +1,9 @@
 // The words after a command: its options, each with a value, and its files.
 #![tactic(auto)]
 
-ghost use Rattle.std.specs.Prelude.{◌≡◌, ◌≤◌, [], IfOk, OnOk, IfSome, IsTrue, ◌↔◌};
+ghost use Rattle.std.specs.Prelude.{◌≡◌, ◌≤◌, [], map, IfOk, OnOk, IfSome, IsTrue, ◌↔◌};
 ghost use Rattle.files.specs.Name.{word_bytes};
-ghost use Rattle.options.specs.Given.{IsOptionWord, IsPlain, NoOptionAmong, names, few};
+ghost use Rattle.options.specs.Given.{IsOptionWord, IsPlain, NoOptionAmong, NoOptionIn, names, few};
 
 use files::Word;
 use status::Fault;
@@ -106,7 +106,7 @@ impl Given {
 
     // One more file.
     fn add(&mut self, file: Word) -> Result<(), Fault>
-        ensures { ¬ IsOptionWord (word_bytes file) → NoOptionAmong self.old.files.items → OnOk result (NoOptionAmong self.new.files.items) }
+        ensures { ¬ IsOptionWord (word_bytes file) → NoOptionIn self.old.files.items → OnOk result (NoOptionIn self.new.files.items) }
     {
         if self.files.len() < 3 {
             self.files.push(file)?;
@@ -116,7 +116,7 @@ impl Given {
 
     // The words from this number on, up to one that is at fault. An option that stands twice has the last value.
     pub fn of(rt: &HostRuntime, from: usize) -> Result<Given, Fault>
-        ensures { IfOk result (λ given. NoOptionAmong given.files.items) }
+        ensures { IfOk result (λ given. NoOptionIn given.files.items) }
     {
         let alloc = rt.alloc();
         let mut given = Given::none(alloc);
@@ -168,7 +168,87 @@ impl Given {
     }
 }
 
-impl Options<'_> {
+impl<'a> Files<'a> {
+    fn of(list: &[&'a Word]) -> Files<'a>
+        ensures in_order { names result ≡ few (map (λ word. word.now) list.now) }
+        ensures no_option { NoOptionAmong list.now → IfSome (names result) NoOptionIn }
+    {
+        match list {
+            [] => Files::None,
+            [one] => Files::One(one),
+            [one, two] => Files::Two(one, two),
+            _ => Files::More,
+        }
+    }
+}
+
+impl<'a> Options<'a> {
+    fn none() -> Options<'a>
+        ensures { IsPlain result }
+    {
+        Options {
+            code: None,
+            sheet: None,
+            state: None,
+            clock: None,
+            files: Files::None,
+        }
+    }
+
+    fn set(&mut self, named: Named, value: &'a Word) {
+        match named {
+            Named::Code => self.code = Some(value),
+            Named::Sheet => self.sheet = Some(value),
+            Named::State => self.state = Some(value),
+            Named::Clock => self.clock = Some(value),
+        }
+    }
+
+    // All words after a command, from a list that the caller has, and beside the options all files in order, however many.
+    // An option that stands twice has the last value.
+    pub fn with_files(
+        alloc: Global,
+        words: &'a [Word],
+    ) -> Result<(Options<'a>, Vec<&'a Word>), Fault>
+        ensures no_option { IfOk result (λ both. NoOptionAmong both.1.items) }
+        ensures no_option_named { IfOk result (λ both. IfSome (names both.0.files) NoOptionIn) }
+        ensures in_order { IfOk result (λ both. names both.0.files ≡ few (map (λ word. word.now) both.1.items)) }
+    {
+        let mut options = Options::none();
+        let mut files = Vec::new(alloc);
+        // The option whose value the next word is, with its own word.
+        let mut lacking = None;
+        for word in words {
+            lacking = match (lacking, kind_of(word.bytes())) {
+                (Some((named, _)), _) => {
+                    options.set(named, word);
+                    None
+                }
+                (None, Kind::Option(named)) => Some((named, word)),
+                (None, Kind::Unknown) => {
+                    return Err(Fault::of_word(alloc, "there is no option", word));
+                }
+                (None, Kind::File) => {
+                    files.push(word)?;
+                    None
+                }
+            };
+        }
+        if let Some((_, word)) = lacking {
+            return Err(Fault::of_word(alloc, "a value is missing after", word));
+        }
+        options.files = Files::of(files.as_slice());
+        Ok((options, files))
+    }
+
+    // The same without the list of files.
+    pub fn of(alloc: Global, words: &'a [Word]) -> Result<Options<'a>, Fault>
+        ensures { IfOk result (λ options. IfSome (names options.files) NoOptionIn) }
+    {
+        let (options, _) = Options::with_files(alloc, words)?;
+        Ok(options)
+    }
+
     // Whether no option is given.
     pub fn is_plain(&self) -> bool
         ensures { IsTrue result ↔ IsPlain self.now }
@@ -215,6 +295,42 @@ mod tests {
         let options = given.options();
         assert!(rt; options.is_plain());
         assert!(rt; matches!(options.files, Files::None));
+        Ok(())
+    }
+
+    #[test]
+    fn takes_no_word_of_a_list(rt: HostRuntime) -> Result<(), Fail> {
+        let Ok(options) = Options::of(rt.alloc(), &[]) else {
+            return Err(Fail::new("no word is refused"));
+        };
+        assert!(rt; options.is_plain());
+        assert!(rt; matches!(options.files, Files::None));
+        Ok(())
+    }
+
+    // The program's own name is no option, so that three of it are three files.
+    #[test]
+    fn takes_files_of_a_list(rt: HostRuntime) -> Result<(), Fail> {
+        let mut words = Vec::new(rt.alloc());
+        for _ in 0..3 {
+            let Some(own) = files::word_at(&rt, 0)? else {
+                return Err(Fail::new("the program has no name"));
+            };
+            words.push(own)?;
+        }
+        let Ok((options, files)) = Options::with_files(rt.alloc(), words.as_slice()) else {
+            return Err(Fail::new("three files are refused"));
+        };
+        assert!(rt; options.is_plain());
+        assert!(rt; matches!(options.files, Files::More));
+        assert_eq!(rt; files.len(), 3);
+        let Some((_, two)) = words.as_slice().split_first() else {
+            return Err(Fail::new("no word is left"));
+        };
+        let Ok(options) = Options::of(rt.alloc(), two) else {
+            return Err(Fail::new("two files are refused"));
+        };
+        assert!(rt; matches!(options.files, Files::Two(..)));
         Ok(())
     }
 }
