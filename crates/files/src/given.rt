@@ -54,6 +54,18 @@ pub fn word_at(rt: &HostRuntime, number: usize) -> Result<Option<Word>, AllocErr
     Ok(Some(Word { held }))
 }
 
+// All words after the program's own name.
+pub fn words(rt: &HostRuntime) -> Result<Vec<Word>, AllocError> {
+    let mut all = Vec::new(rt.alloc());
+    for number in 1..usize::MAX {
+        match word_at(rt, number)? {
+            Some(word) => all.push(word)?,
+            None => break,
+        }
+    }
+    Ok(all)
+}
+
 #[cfg(test)]
 mod tests {
     use super::*;
@@ -66,6 +78,16 @@ mod tests {
         assert!(rt; own.is_some());
         let none = word_at(&rt, usize::MAX)?;
         assert!(rt; none.is_none());
+        Ok(())
+    }
+
+    // However many words the test is given, the one after the last that is found is none.
+    #[test]
+    fn finds_all_words(rt: HostRuntime) -> Result<(), Fail> {
+        let all = words(&rt)?;
+        let mut room = [0u8; 4096];
+        let next = rt.arg(all.len().saturating_add(1), &mut room);
+        assert!(rt; matches!(next, Err(FillError::NotPresent)));
         Ok(())
     }
 }

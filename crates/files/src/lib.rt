@@ -9,7 +9,7 @@ mod read;
 mod save;
 
 pub use fault::{Fault, Reason, write_output};
-pub use given::{Word, word_at};
+pub use given::{Word, word_at, words};
 pub use named::open_read;
 pub use read::{read_file, read_some};
 pub use save::{Wrote, is_output, write_file};
